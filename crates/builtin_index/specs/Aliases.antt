@@ -27,7 +27,8 @@ place_among names name = position_or_len (bytes_eq name) names
 -- The name of a field's module under the normal form of the field's value, if it has one; the
 -- priority is the place of the module.
 abbrev pub alias_value : List (List ℕ) → BuiltinField → Option KeyValue
-alias_value names f = option_map (λ key. (key, (place_among names f.module, f.module))) (normal_alias f.value)
+alias_value names f =
+    option_map (λ key. (key, (place_among names f.module, f.module))) (normal_alias f.value)
 
 -- A map with more values, each put under its key.
 abbrev pub with_values : KeyValues → List KeyValue → KeyValues

@@ -12,8 +12,13 @@ use Rattle.builtin_index.specs.Aliases.{alias_values, alias_map}
 -- are ordered by the places of the modules, and the values of one module are in the order of the
 -- file.
 abbrev pub AreByPlace : Type 0
-AreByPlace = (bytes key : List ℕ) → IsByPriority (under key (alias_values (fields_of bytes))) (values_of (alias_map bytes) key)
+AreByPlace =
+    (bytes key : List ℕ)
+    → IsByPriority (under key (alias_values (fields_of bytes)))
+    (values_of (alias_map bytes) key)
 
 -- The file written from the map holds exactly the map, if neither file is longer than files may be.
 abbrev pub AreHeld : Type 0
-AreHeld = (bytes : List ℕ) → length bytes ≤ file_limit → length (file (alias_map bytes)) ≤ file_limit → Holds (file (alias_map bytes)) (alias_map bytes)
+AreHeld =
+    (bytes : List ℕ) → length bytes ≤ file_limit → length (file (alias_map bytes)) ≤ file_limit
+    → Holds (file (alias_map bytes)) (alias_map bytes)

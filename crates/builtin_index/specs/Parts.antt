@@ -1,6 +1,7 @@
 -- The parts of a piece, and the aliases of a file, as the code keeps them.
 -- It belongs to the code: no public meaning rests on it.
-use Rattle.std.specs.Prelude.{◌≡◌, ℕ, true, List, map, Option, Some, None, MatchOption, option_map, if◌then◌else◌, ⊤}
+use Rattle.std.specs.Prelude.{◌≡◌, ℕ, true, List, map, Option, Some, None, MatchOption, option_map}
+use Rattle.std.specs.Prelude.{if◌then◌else◌, ⊤}
 use Rattle.km_names.specs.Ascii.{is_graphic}
 use Rattle.km_names.specs.AliasForm.{normal_alias}
 use Rattle.km_names.specs.Path.{underscored}
@@ -15,13 +16,16 @@ use Rattle.builtin_index.specs.Aliases.{is_alias, place_among}
 
 -- The field of these parts.
 abbrev pub field_shown : Parts → BuiltinField
-field_shown parts = record { «module» = underscored parts.module.now; key = parts.key.now; value = parts.value.now }
+field_shown parts =
+    record { «module» = underscored parts.module.now; key = parts.key.now; value = parts.value.now }
 
 -- These names were seen, in their order. The text that was last looked up names the one at its
 -- place.
 pub record IsSeen (seen : Seen) (seen_names : List (List ℕ)) : Type 0 where
   pub names : map name_of seen.names.keys ≡ seen_names
-  pub last : MatchOption seen.last ⊤ (λ l. (is_among seen_names (underscored l.text.now) ≡ true) × (l.place ≡ place_among seen_names (underscored l.text.now)))
+  pub last : MatchOption seen.last ⊤
+      (λ l. (is_among seen_names (underscored l.text.now) ≡ true)
+      × (l.place ≡ place_among seen_names (underscored l.text.now)))
 
 -- An alias of the module at a place: the place, the module's name, and the alias.
 abbrev pub AliasAt : Type 0

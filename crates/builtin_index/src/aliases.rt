@@ -33,7 +33,9 @@ fn is_alias(parts: Parts) -> bool
 /// Reads the aliases of a file, in order.
 fn stated_aliases(alloc: Global, bytes: &[u8]) -> Result<Vec<Stated<'_>>, AllocError>
     requires { length bytes.now ≤ file_limit }
-    ensures aliases { IfOk result (λ list. map alias_shown list.items ≡ filter_map (alias_in (modules_of (fields_of bytes.now))) (fields_of bytes.now)) }
+    ensures aliases { IfOk result
+        (λ list. map alias_shown list.items
+        ≡ filter_map (alias_in (modules_of (fields_of bytes.now))) (fields_of bytes.now)) }
     ensures words { IfOk result (λ list. All IsWord list.items) }
 {
     let mut seen = Seen::new(alloc);
@@ -59,7 +61,9 @@ fn stated_aliases(alloc: Global, bytes: &[u8]) -> Result<Vec<Stated<'_>>, AllocE
 /// Puts the value of an alias into the map, if the alias has a normal form.
 fn add_alias(alloc: Global, key_map: &mut KeyMap, stated: Stated) -> Result<(), AllocError>
     requires { IsWord stated }
-    ensures { OnOk result (key_map.new ≡ with_values key_map.old (option_to_list (value_at (alias_shown stated.entry)))) }
+    ensures { OnOk result
+        (key_map.new
+        ≡ with_values key_map.old (option_to_list (value_at (alias_shown stated.entry)))) }
 {
     if let Some(key) = normal_alias(alloc, stated.alias)? {
         let name = underscored(alloc, stated.module)?;

@@ -18,8 +18,10 @@ pub fn alias_index(alloc: Global, bytes: &[u8]) -> Result<Blob, WriteFault>
     ensures file { IfOk result (λ index. index ≡ file (alias_map bytes.now)) }
     ensures holds { IfOk result (λ index. Holds index (alias_map bytes.now)) }
     ensures within { OnOk result (length (file (alias_map bytes.now)) ≤ file_limit) }
-    ensures too_large { (n : ℕ) → result ≡ Err (WriteFault.IndexTooLarge n) → file_limit < length (file (alias_map bytes.now)) }
-    ensures length { (n : ℕ) → result ≡ Err (WriteFault.IndexTooLarge n) → n ≡ min (length (file (alias_map bytes.now))) (2 ^ 64 - 1) }
+    ensures too_large { (n : ℕ) → result ≡ Err (WriteFault.IndexTooLarge n)
+        → file_limit < length (file (alias_map bytes.now)) }
+    ensures length { (n : ℕ) → result ≡ Err (WriteFault.IndexTooLarge n)
+        → n ≡ min (length (file (alias_map bytes.now))) (2 ^ 64 - 1) }
 {
     let map = builtin_aliases(alloc, bytes)?;
     encode(alloc, &map)

@@ -60,7 +60,8 @@ impl<'a> Seen<'a> {
             IsSeen self.new (with_name names (underscored text.now))) }
         ensures place { IfOk result (λ place. (names : List (List ℕ)) → IsSeen self.old names →
             place ≡ place_among (with_name names (underscored text.now)) (underscored text.now)) }
-        ensures count { OnOk result (index_set_len self.new.names ≤ index_set_len self.old.names + 1) }
+        ensures count { OnOk result
+            (index_set_len self.new.names ≤ index_set_len self.old.names + 1) }
     {
         if let Some(last) = self.last {
             if last.text == text {

@@ -19,7 +19,8 @@ use Rattle.stages_files.specs.KernelModules.{modules_folder}
 -- texts of the values of all keys that match it.
 abbrev pub names_found : Index → Option (List ℕ) → List (List ℕ)
 names_found index None = []
-names_found index (Some normal) = first_seen (map (λ v. v.1) (wild_values (contents index.nodes) normal))
+names_found index (Some normal) =
+    first_seen (map (λ v. v.1) (wild_values (contents index.nodes) normal))
 
 -- A line for each name.
 abbrev pub lines_of_names : List (List ℕ) → List ℕ
@@ -33,12 +34,14 @@ unless_none asked (name ∷ names) = value (lines_of_names (name ∷ names))
 
 -- What a name results in. One that isn't found is reported in its normal form, if it has one.
 abbrev pub found_outcome : Index → List ℕ → Outcome (List ℕ)
-found_outcome index name = unless_none (normal_or_itself name) (names_found index (normal_alias name))
+found_outcome index name =
+    unless_none (normal_or_itself name) (names_found index (normal_alias name))
 
 -- The course of a request: the names are one writing.
 abbrev pub shows_names : BuiltinAliasWords → Stage ⊤
 shows_names asked = do
-  index ← reads_index (path_below (modules_folder asked.dirname asked.version) (codes "modules.builtin.alias.bin"))
+  index ← reads_index
+      (path_below (modules_folder asked.dirname asked.version) (codes "modules.builtin.alias.bin"))
   text ← given (found_outcome index asked.name)
   says_any text
 

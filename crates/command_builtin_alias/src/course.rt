@@ -2,7 +2,8 @@ ghost use Rattle.std.specs.Prelude.{◌≡◌, ◌++◌, IfOk, OnOk, map};
 ghost use Rattle.km_course.specs.FollowsOn.{FollowsOnFilesAndOut, Returns};
 ghost use Rattle.name_table.specs.FirstSeen.{first_seen};
 ghost use Rattle.index_read.specs.Values.{found_values};
-ghost use Rattle.command_builtin_alias.specs.BuiltinAlias.{builtin_alias_course, found_outcome, lines_of_names, shows_names};
+ghost use Rattle.command_builtin_alias.specs.BuiltinAlias.{builtin_alias_course, found_outcome};
+ghost use Rattle.command_builtin_alias.specs.BuiltinAlias.{lines_of_names, shows_names};
 
 use index_read::{Index, Values, plain};
 use km_course::{End, Refusal, Stop, say_any};

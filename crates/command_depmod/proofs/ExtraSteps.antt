@@ -11,7 +11,8 @@ use Rattle.km_course.specs.declared.stop.Stop.{Stop}
 use Rattle.km_course.specs.declared.stop.Stop.TheVariants.{Memory}
 use Rattle.command_depmod.specs.declared.files.DepmodFile.TheVariants.{BuiltinAliasBin, Devname}
 use Rattle.command_depmod.specs.declared.files.ExtraFiles.{ExtraFiles}
-use Rattle.command_depmod.specs.Extra.{extra_files, extra_outcome, extra_refusal, refused_stop, size_refusal}
+use Rattle.command_depmod.specs.Extra.{extra_files, extra_outcome, extra_refusal, refused_stop}
+use Rattle.command_depmod.specs.Extra.{size_refusal}
 use Rattle.command_depmod.specs.Refused.{unless_refused}
 
 -- the stage after modules.builtin.modinfo was read
@@ -22,27 +23,39 @@ info_given bytes = gives (Some bytes)
 abbrev pub StopsFor : Option Refusal → Stop → Type 0
 StopsFor refused stop = (stop ≡ Memory) ⊎ (option_map refused_stop refused ≡ Some stop)
 
-same-stop : (refusal : Refusal) (stop : Stop) → Some (refused_stop refusal) ≡ Some stop → refused_stop refusal ≡ stop
+same-stop : (refusal : Refusal) (stop : Stop) → Some (refused_stop refusal) ≡ Some stop
+    → refused_stop refusal ≡ stop
 same-stop refusal stop is = cc
 
-stopped : (made : Option ExtraFiles) (whole refused : Option Refusal) (stop : Stop) → ((refusal : Refusal) → refused ≡ Some refusal → whole ≡ Some refusal) → StopsFor refused stop → Answers (λ (x : Option ExtraFiles). x) (unless_refused whole made) (Err stop)
-stopped made whole refused stop is (inl wanting) = subst (λ s. Answers (λ (x : Option ExtraFiles). x) (unless_refused whole made) (Err s)) (sym wanting) tt
+stopped : (made : Option ExtraFiles) (whole refused : Option Refusal) (stop : Stop)
+    → ((refusal : Refusal) → refused ≡ Some refusal → whole ≡ Some refusal) → StopsFor refused stop
+    → Answers (λ (x : Option ExtraFiles). x) (unless_refused whole made) (Err stop)
+stopped made whole refused stop is (inl wanting) =
+    subst (λ s. Answers (λ (x : Option ExtraFiles). x) (unless_refused whole made) (Err s))
+    (sym wanting) tt
 stopped made whole None stop is (inr ended) = absurd (cc)
 stopped made whole (Some refusal) stop is (inr ended) =
-    subst (λ s. Answers (λ (x : Option ExtraFiles). x) (unless_refused whole made) (Err s)) (same-stop refusal stop ended)
+    subst (λ s. Answers (λ (x : Option ExtraFiles). x) (unless_refused whole made) (Err s))
+    (same-stop refusal stop ended)
     (ap (λ w. unless_refused w made) (is refusal refl))
 
 -- the first of the two is too large
-pub first-stopped : (tree : List Facts) (info : List ℕ) (stop : Stop) → StopsFor (size_refusal BuiltinAliasBin (extra_files tree info).builtin_alias_bin) stop → Answers (λ (x : Option ExtraFiles). x) (extra_outcome tree (Some info)) (Err stop)
+pub first-stopped : (tree : List Facts) (info : List ℕ) (stop : Stop)
+    → StopsFor (size_refusal BuiltinAliasBin (extra_files tree info).builtin_alias_bin) stop
+    → Answers (λ (x : Option ExtraFiles). x) (extra_outcome tree (Some info)) (Err stop)
 unfolding extra_outcome
 first-stopped tree info stop why =
     let e : ExtraFiles = extra_files tree info in
     let second = size_refusal Devname e.devname in
-    stopped (Some e) (extra_refusal (Some e)) (size_refusal BuiltinAliasBin e.builtin_alias_bin) stop
+    stopped (Some e) (extra_refusal (Some e)) (size_refusal BuiltinAliasBin e.builtin_alias_bin)
+    stop
     (λ refusal is. ap (λ o. first (o ∷ second ∷ [])) is) why
 
 -- the second one is
-pub second-stopped : (tree : List Facts) (info : List ℕ) (stop : Stop) → size_refusal BuiltinAliasBin (extra_files tree info).builtin_alias_bin ≡ None → StopsFor (size_refusal Devname (extra_files tree info).devname) stop → Answers (λ (x : Option ExtraFiles). x) (extra_outcome tree (Some info)) (Err stop)
+pub second-stopped : (tree : List Facts) (info : List ℕ) (stop : Stop)
+    → size_refusal BuiltinAliasBin (extra_files tree info).builtin_alias_bin ≡ None
+    → StopsFor (size_refusal Devname (extra_files tree info).devname) stop
+    → Answers (λ (x : Option ExtraFiles). x) (extra_outcome tree (Some info)) (Err stop)
 unfolding extra_outcome
 second-stopped tree info stop small why =
     let e : ExtraFiles = extra_files tree info in
@@ -51,12 +64,16 @@ second-stopped tree info stop small why =
     (λ refusal is. ap (λ o. first (o ∷ second ∷ [])) small ∙ ap (λ o. first (None ∷ o ∷ [])) is) why
 
 -- neither is
-pub both-made : (tree : List Facts) (info : List ℕ) (made : ExtraFiles) → size_refusal BuiltinAliasBin (extra_files tree info).builtin_alias_bin ≡ None → size_refusal Devname (extra_files tree info).devname ≡ None → extra_files tree info ≡ made → extra_outcome tree (Some info) ≡ value (Some made)
+pub both-made : (tree : List Facts) (info : List ℕ) (made : ExtraFiles)
+    → size_refusal BuiltinAliasBin (extra_files tree info).builtin_alias_bin ≡ None
+    → size_refusal Devname (extra_files tree info).devname ≡ None → extra_files tree info ≡ made
+    → extra_outcome tree (Some info) ≡ value (Some made)
 unfolding extra_outcome
 both-made tree info made one two is =
     let e : ExtraFiles = extra_files tree info in
     let second = size_refusal Devname e.devname in
-    let small : extra_refusal (Some e) ≡ None = ap (λ o. first (o ∷ second ∷ [])) one ∙ ap (λ o. first (None ∷ o ∷ [])) two in
+    let small : extra_refusal (Some e) ≡ None
+    = ap (λ o. first (o ∷ second ∷ [])) one ∙ ap (λ o. first (None ∷ o ∷ [])) two in
     ap (λ o. unless_refused o (Some e)) small ∙ ap (λ x. value (Some x)) is
 
 -- none are wanted

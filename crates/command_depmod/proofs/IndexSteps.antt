@@ -14,16 +14,21 @@ use Rattle.command_depmod.specs.Depmod.{warns_of_tree, indexes_tree}
 
 -- the stages after the search list, the tree, the kernel's table and the facts were read
 abbrev pub related : Table → List Facts → Stage KernelTree
-related kernel facts = given (relation_outcome (record { facts = facts; kernel = seen_kernel kernel }))
+related kernel facts =
+    given (relation_outcome (record { facts = facts; kernel = seen_kernel kernel }))
 
 abbrev pub with_kernel : List ℕ → List (List ℕ) → Table → Stage KernelTree
 with_kernel folder paths kernel = reads_modules_facts folder paths >>= λ facts. related kernel facts
 
-abbrev pub with_paths : List ℕ → Option (List ℕ) → Option (List ℕ) → List (List ℕ) → Stage KernelTree
-with_paths folder map symvers paths = reads_kernel map symvers >>= λ kernel. with_kernel folder paths kernel
+abbrev pub with_paths : List ℕ → Option (List ℕ) → Option (List ℕ) → List (List ℕ)
+    → Stage KernelTree
+with_paths folder map symvers paths =
+    reads_kernel map symvers >>= λ kernel. with_kernel folder paths kernel
 
-abbrev pub with_search : List ℕ → Option (List ℕ) → Option (List ℕ) → List (List ℕ) → Stage KernelTree
-with_search folder map symvers search = reads_tree folder search >>= λ paths. with_paths folder map symvers paths
+abbrev pub with_search : List ℕ → Option (List ℕ) → Option (List ℕ) → List (List ℕ)
+    → Stage KernelTree
+with_search folder map symvers search =
+    reads_tree folder search >>= λ paths. with_paths folder map symvers paths
 
 -- the stages after the warnings, the files and the tree
 abbrev pub warned : Wanted → List ℕ → DepmodFiles → ⊤ → Stage ⊤

@@ -26,7 +26,8 @@ target_of_request asked = modules_folder asked.outdir asked.version
 
 -- The tree in a folder, with its relation. The configuration is read, the tree is chosen, and the
 -- kernel's table is read. Each module of the tree is read and checked, and then they are related.
-abbrev pub reads_related : List ℕ → Option (List ℕ) → Option (List ℕ) → Option (List ℕ) → Stage KernelTree
+abbrev pub reads_related : List ℕ → Option (List ℕ) → Option (List ℕ) → Option (List ℕ)
+    → Stage KernelTree
 reads_related folder config map symvers = do
   search ← reads_search config
   paths ← reads_tree folder search
@@ -36,11 +37,18 @@ reads_related folder config map symvers = do
 
 -- what a request asks for besides the index itself
 abbrev pub wanted_of : DepmodWords → Wanted
-wanted_of asked = record { dry_run = asked.dry_run; errsyms = asked.errsyms; extra = asked.extra; versions = is_some asked.symvers }
+wanted_of asked =
+    record {
+      dry_run = asked.dry_run;
+      errsyms = asked.errsyms;
+      extra = asked.extra;
+      versions = is_some asked.symvers;
+    }
 
 -- The warnings of a tree, if they are asked for.
 abbrev pub warns_of_tree : Wanted → KernelTree → Stage ⊤
-warns_of_tree wanted tree = warns_unmet wanted.errsyms wanted.versions (unmet (modules_of tree.facts) tree.kernel)
+warns_of_tree wanted tree =
+    warns_unmet wanted.errsyms wanted.versions (unmet (modules_of tree.facts) tree.kernel)
 
 -- The course of a tree in a folder that was read. Its files are made, and only then is anything
 -- written: first the warnings, and then the files into the target.

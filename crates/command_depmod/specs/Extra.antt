@@ -1,6 +1,7 @@
 -- The two files of `depmod --extra`: the index of the aliases of built-in modules, and the device
 -- nodes of modules. The option is this project's own; kmod's depmod always makes both.
-use Rattle.std.specs.Prelude.{ℕ, nat_lt, Bool, List, [], ◌∷◌, length, codes, Option, Some, None, option_map}
+use Rattle.std.specs.Prelude.{ℕ, nat_lt, Bool, List, [], ◌∷◌, length, codes, Option, Some, None}
+use Rattle.std.specs.Prelude.{option_map}
 use Rattle.km_names.specs.First.{first}
 use Rattle.km_names.specs.Limit.{file_limit}
 use Rattle.km_names.specs.Path.{path_below}
@@ -30,11 +31,13 @@ reads_info extra folder =
 
 -- The two files, by the modules of a tree and by what modules.builtin.modinfo has.
 abbrev pub extra_files : List Facts → List ℕ → ExtraFiles
-extra_files tree info = record { builtin_alias_bin = file (alias_map info); devname = nodes_text (nodes_of tree) }
+extra_files tree info =
+    record { builtin_alias_bin = file (alias_map info); devname = nodes_text (nodes_of tree) }
 
 -- The refusal of a file of this many bytes, by its bare name: it is too large.
 abbrev pub size_refusal : DepmodFile → List ℕ → Option Refusal
-size_refusal which bytes = refused_if (nat_lt file_limit (length bytes)) (OutputTooLarge (file_name which))
+size_refusal which bytes =
+    refused_if (nat_lt file_limit (length bytes)) (OutputTooLarge (file_name which))
 
 -- The two files, if modules.builtin.modinfo was read.
 abbrev pub extra_made : List Facts → Option (List ℕ) → Option ExtraFiles
@@ -44,12 +47,14 @@ extra_made tree info = option_map (extra_files tree) info
 abbrev pub extra_refusal : Option ExtraFiles → Option Refusal
 extra_refusal None = None
 extra_refusal (Some extra) =
-    first (size_refusal BuiltinAliasBin extra.builtin_alias_bin ∷ size_refusal Devname extra.devname ∷ [])
+    first (size_refusal BuiltinAliasBin extra.builtin_alias_bin ∷ size_refusal Devname extra.devname
+    ∷ [])
 
 -- What the modules of a tree result in, if modules.builtin.modinfo was read: the two files, or a
 -- refusal. Otherwise there are no such files.
 unfoldable pub extra_outcome : List Facts → Option (List ℕ) → Outcome (Option ExtraFiles)
-extra_outcome tree info = unless_refused (extra_refusal (extra_made tree info)) (extra_made tree info)
+extra_outcome tree info =
+    unless_refused (extra_refusal (extra_made tree info)) (extra_made tree info)
 
 -- how a refusal stops the command
 abbrev pub refused_stop : Refusal → Stop

@@ -1,23 +1,28 @@
 -- The files that `depmod` leaves: which there are, in which order, and what they have. depmod(8),
 -- modules.dep(5).
 use Rattle.std.specs.Prelude.{ℕ, Bool, List, [], ◌∷◌, codes, Option, Some, None, if◌then◌else◌}
-use Rattle.depmod_core.specs.declared.file.OutputFile.TheVariants.{Dep, DepBin, Alias, AliasBin, Softdep, Symbols, SymbolsBin, BuiltinBin, Unmet}
+use Rattle.depmod_core.specs.declared.file.OutputFile.TheVariants.{Dep, DepBin, Alias, AliasBin}
+use Rattle.depmod_core.specs.declared.file.OutputFile.TheVariants.{Softdep, Symbols, SymbolsBin}
+use Rattle.depmod_core.specs.declared.file.OutputFile.TheVariants.{BuiltinBin, Unmet}
 use Rattle.depmod_core.specs.Files.{content as usual_content, file_name as usual_name}
 use Rattle.command_depmod.specs.declared.files.DepmodFile.{DepmodFile}
-use Rattle.command_depmod.specs.declared.files.DepmodFile.TheVariants.{Usual, BuiltinAliasBin, Devname}
+use Rattle.command_depmod.specs.declared.files.DepmodFile.TheVariants.{Usual, BuiltinAliasBin}
+use Rattle.command_depmod.specs.declared.files.DepmodFile.TheVariants.{Devname}
 use Rattle.command_depmod.specs.declared.files.DepmodFiles.{DepmodFiles}
 use Rattle.command_depmod.specs.declared.files.ExtraFiles.{ExtraFiles}
 
 -- All files, in the order in which they are replaced: nine, and two more with `--extra`.
 abbrev pub all_files : Bool → List DepmodFile
 all_files extra =
-    Usual Dep ∷ Usual DepBin ∷ Usual Alias ∷ Usual AliasBin ∷ Usual Softdep ∷ Usual Symbols ∷ Usual SymbolsBin ∷ Usual BuiltinBin ∷ Usual Unmet
+    Usual Dep ∷ Usual DepBin ∷ Usual Alias ∷ Usual AliasBin ∷ Usual Softdep ∷ Usual Symbols
+    ∷ Usual SymbolsBin ∷ Usual BuiltinBin ∷ Usual Unmet
     ∷ (if extra then BuiltinAliasBin ∷ Devname ∷ [] else [])
 
 -- Those that are text, in that order.
 abbrev pub text_files : Bool → List DepmodFile
 text_files extra =
-    Usual Dep ∷ Usual Alias ∷ Usual Softdep ∷ Usual Symbols ∷ Usual Unmet ∷ (if extra then Devname ∷ [] else [])
+    Usual Dep ∷ Usual Alias ∷ Usual Softdep ∷ Usual Symbols ∷ Usual Unmet
+    ∷ (if extra then Devname ∷ [] else [])
 
 -- The name of a file, below the folder of the kernel's modules.
 abbrev pub file_name : DepmodFile → List ℕ

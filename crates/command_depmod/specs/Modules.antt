@@ -1,5 +1,6 @@
 -- The modules of a tree, each read and checked at its turn. depmod(8).
-use Rattle.std.specs.Prelude.{◌≡◌, ℕ, List, [], ◌∷◌, ◌++◌, Option, Some, None, All, AllPairs, IsTrue}
+use Rattle.std.specs.Prelude.{◌≡◌, ℕ, List, [], ◌∷◌, ◌++◌, Option, Some, None, All, AllPairs}
+use Rattle.std.specs.Prelude.{IsTrue}
 use Rattle.km_names.specs.Path.{path_below, is_compressed, module_name}
 use Rattle.km_names.specs.Ascii.{is_graphic}
 use Rattle.module_facts.specs.declared.facts.Export.{Export}
@@ -9,7 +10,8 @@ use Rattle.module_facts.specs.declared.fault.ModuleFault.{ModuleFault}
 use Rattle.module_facts.specs.Facts.{facts_of}
 use Rattle.module_facts.specs.Faults.{fact_fault}
 use Rattle.module_facts.specs.FaultText.{module_fault_text}
-use Rattle.km_course.specs.Course.{Outcome, Stage, ◌>>=◌, given, gives, ends, when◌then◌else◌, reads, each_from}
+use Rattle.km_course.specs.Course.{Outcome, Stage, ◌>>=◌, given, gives, ends, when◌then◌else◌}
+use Rattle.km_course.specs.Course.{reads, each_from}
 use Rattle.km_course.specs.Course.Outcome.{value, end}
 use Rattle.km_course.specs.declared.end.End.TheVariants.{Refused}
 use Rattle.km_course.specs.declared.refusal.Refusal.TheVariants.{BadModule, Compressed}

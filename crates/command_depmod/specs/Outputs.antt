@@ -4,7 +4,8 @@ use Rattle.km_names.specs.First.{first}
 use Rattle.km_names.specs.Path.{path_below}
 use Rattle.depmod_core.specs.declared.files.OutputFiles.{OutputFiles}
 use Rattle.depmod_core.specs.Files.{files}
-use Rattle.km_course.specs.Course.{Outcome, Stage, ◌>>=◌, given, gives, reads_any, puts, says_any, each_from, when◌then◌else◌}
+use Rattle.km_course.specs.Course.{Outcome, Stage, ◌>>=◌, given, gives, reads_any, puts, says_any}
+use Rattle.km_course.specs.Course.{each_from, when◌then◌else◌}
 use Rattle.km_course.specs.declared.refusal.Refusal.{Refusal}
 use Rattle.command_depmod.specs.declared.files.DepmodFile.{DepmodFile}
 use Rattle.command_depmod.specs.declared.files.DepmodFiles.{DepmodFiles}
@@ -15,7 +16,9 @@ use Rattle.command_depmod.specs.Relation.{KernelTree}
 
 -- The refusal of the first of the nine files that is too large.
 abbrev pub usual_refusal : OutputFiles → Option Refusal
-usual_refusal made = first (map (λ file. size_refusal file (content (record { usual = made; extra = None }) file)) (all_files false))
+usual_refusal made =
+    first (map (λ file. size_refusal file (content (record { usual = made; extra = None }) file))
+    (all_files false))
 
 -- What a tree results in that has these nine files: they, or a refusal.
 unfoldable pub outputs_outcome : OutputFiles → Outcome OutputFiles

@@ -15,7 +15,8 @@ use Rattle.provider_rel.specs.declared.fault.RelationFault.TheVariants as faults
 use Rattle.km_course.specs.Course.{Outcome}
 use Rattle.km_course.specs.declared.end.End.TheVariants.{Refused}
 use Rattle.km_course.specs.declared.refusal.Refusal.{Refusal}
-use Rattle.km_course.specs.declared.refusal.Refusal.TheVariants.{Cycle, TooManyDependencies, TooManyDoubles}
+use Rattle.km_course.specs.declared.refusal.Refusal.TheVariants.{Cycle, TooManyDependencies}
+use Rattle.km_course.specs.declared.refusal.Refusal.TheVariants.{TooManyDoubles}
 use Rattle.km_course.specs.declared.stop.Stop.{Stop}
 use Rattle.km_course.specs.declared.stop.Stop.TheVariants.{Ended, Memory}
 use Rattle.command_depmod.specs.Refused.{unless_refused}

@@ -1,5 +1,6 @@
 -- The tree of a kernel's modules, as `depmod` finds it in their folder. depmod(8), depmod.d(5).
-use Rattle.std.specs.Prelude.{◌≡◌, ◌≤◌, ◌==◌, ℕ, nat_lt, not, List, [], ◌∷◌, filter, length, codes, Option, option_map, All, AllPairs, IsTrue}
+use Rattle.std.specs.Prelude.{◌≡◌, ◌≤◌, ◌==◌, ℕ, nat_lt, not, List, [], ◌∷◌, filter, length, codes}
+use Rattle.std.specs.Prelude.{Option, option_map, All, AllPairs, IsTrue}
 use Rattle.std.specs.List.{list_any}
 use Rattle.km_names.specs.Ascii.{is_graphic}
 use Rattle.km_names.specs.Path.{path_below, module_name}
@@ -19,7 +20,8 @@ use Rattle.command_depmod.specs.Refused.{refused_if, unless_refused}
 -- The refusal of paths of modules: of the least that is bad, or of more than 10,000 names.
 abbrev pub tree_refusal : List (List ℕ) → Option Refusal
 tree_refusal paths =
-    first (option_map BadPath (bad_path paths) ∷ refused_if (nat_lt 10000 (name_count paths)) TooManyModules ∷ [])
+    first (option_map BadPath (bad_path paths)
+    ∷ refused_if (nat_lt 10000 (name_count paths)) TooManyModules ∷ [])
 
 -- how a fault of a tree stops the command
 abbrev pub tree_stop : TreeFault → Stop

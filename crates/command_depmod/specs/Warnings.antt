@@ -1,7 +1,8 @@
 -- What `depmod -e` warns of. depmod(8), `-e`.
 use Rattle.std.specs.Prelude.{ℕ, Bool, List, ◌++◌, codes, Option, Some, None, if◌then◌else◌, ⊤}
 use Rattle.symbol_binding.specs.declared.unbound.Unbound.{Unbound}
-use Rattle.symbol_binding.specs.declared.unbound.Unbound.TheVariants.{Missing, Gpl, Version, Namespace, Double}
+use Rattle.symbol_binding.specs.declared.unbound.Unbound.TheVariants.{Missing, Gpl, Version}
+use Rattle.symbol_binding.specs.declared.unbound.Unbound.TheVariants.{Namespace, Double}
 use Rattle.km_course.specs.Course.{Stage, gives, warns, each_from, when◌then◌else◌}
 use Rattle.km_course.specs.Lines.{line}
 
@@ -11,7 +12,11 @@ abbrev pub warning_line : Bool → Unbound → Option (List ℕ)
 warning_line versions (Missing path symbol) =
     Some (line (codes "warning: " ++ (path ++ (codes " needs unknown symbol " ++ symbol))))
 warning_line versions (Version path symbol provider) =
-    if versions then Some (line (codes "warning: " ++ (path ++ (codes " disagrees about version of symbol " ++ symbol)))) else None
+    if versions
+    then Some (line
+    (codes "warning: "
+    ++ (path ++ (codes " disagrees about version of symbol " ++ symbol))))
+    else None
 warning_line versions (Gpl path symbol provider) = None
 warning_line versions (Namespace path symbol provider) = None
 warning_line versions (Double symbol first second) = None
@@ -23,8 +28,10 @@ warns_any (Some text) = warns text
 
 -- The warnings of some obstacles, in their order, each one writing.
 abbrev pub warns_each : Bool → List Unbound → Stage ⊤
-warns_each versions obstacles = each_from (λ _ obstacle. warns_any (warning_line versions obstacle)) tt obstacles
+warns_each versions obstacles =
+    each_from (λ _ obstacle. warns_any (warning_line versions obstacle)) tt obstacles
 
 -- The warnings, if they are asked for.
 abbrev pub warns_unmet : Bool → Bool → List Unbound → Stage ⊤
-warns_unmet errsyms versions obstacles = when errsyms then warns_each versions obstacles else gives tt
+warns_unmet errsyms versions obstacles =
+    when errsyms then warns_each versions obstacles else gives tt

@@ -4,7 +4,9 @@ ghost use Rattle.km_course.specs.World.{world};
 ghost use Rattle.km_course.specs.Follows.{Follows};
 ghost use Rattle.km_course.specs.FollowsOn.{FollowsOnErr, FollowsOnFilesAs};
 ghost use Rattle.command_depmod.specs.Related.{IsRelated, seen_tree};
-ghost use Rattle.command_depmod.specs.Depmod.{depmod_course, indexes, indexes_tree, modules_of_request, reads_related, target_of_request, warns_of_tree};
+ghost use Rattle.command_depmod.specs.Depmod.{depmod_course, indexes, indexes_tree};
+ghost use Rattle.command_depmod.specs.Depmod.{modules_of_request, reads_related, target_of_request};
+ghost use Rattle.command_depmod.specs.Depmod.{warns_of_tree};
 
 use crate::modules::read_modules_facts;
 use crate::outputs::{hand_out, make_files};

@@ -1,5 +1,6 @@
 // The two files that `--extra` adds.
-ghost use Rattle.std.specs.Prelude.{◌≡◌, ◌≤◌, ◌⊎◌, Some, None, option_map, IfOk, IfErr, IfSome, OnOk, length};
+ghost use Rattle.std.specs.Prelude.{◌≡◌, ◌≤◌, ◌⊎◌, Some, None, option_map, IfOk, IfErr, IfSome};
+ghost use Rattle.std.specs.Prelude.{OnOk, length};
 ghost use Rattle.km_names.specs.Limit.{file_limit};
 ghost use Rattle.km_course.specs.FollowsOn.{FollowsOnFiles, Returns};
 ghost use Rattle.index_format.specs.File.{file as file_spec};
@@ -64,9 +65,12 @@ pub(crate) fn make_extra(
 fn make_alias_index(alloc: Global, info: &[u8]) -> Result<Blob, Stop>
     requires { length info.now ≤ file_limit }
     ensures made { IfOk result (λ bytes. bytes ≡ file_spec (alias_map info.now)) }
-    ensures small { OnOk result (size_refusal DepmodFile.BuiltinAliasBin (file_spec (alias_map info.now)) ≡ None) }
+    ensures small { OnOk result
+        (size_refusal DepmodFile.BuiltinAliasBin (file_spec (alias_map info.now)) ≡ None) }
     ensures stops { IfErr result (λ stop. (stop ≡ Stop.Memory)
-        ⊎ (option_map refused_stop (size_refusal DepmodFile.BuiltinAliasBin (file_spec (alias_map info.now))) ≡ Some stop)) }
+        ⊎ (option_map refused_stop
+        (size_refusal DepmodFile.BuiltinAliasBin (file_spec (alias_map info.now)))
+        ≡ Some stop)) }
 {
     match alias_index(alloc, info) {
         Ok(bytes) => Ok(bytes),
@@ -80,9 +84,12 @@ fn make_alias_index(alloc: Global, info: &[u8]) -> Result<Blob, Stop>
 /// Makes modules.devname, unless it would be too large.
 fn make_devname(alloc: Global, tree: &TreeFacts) -> Result<Blob, Stop>
     ensures made { IfOk result (λ text. text ≡ nodes_text (nodes_of tree.now)) }
-    ensures small { OnOk result (size_refusal DepmodFile.Devname (nodes_text (nodes_of tree.now)) ≡ None) }
+    ensures small { OnOk result
+        (size_refusal DepmodFile.Devname (nodes_text (nodes_of tree.now)) ≡ None) }
     ensures stops { IfErr result (λ stop. (stop ≡ Stop.Memory)
-        ⊎ (option_map refused_stop (size_refusal DepmodFile.Devname (nodes_text (nodes_of tree.now))) ≡ Some stop)) }
+        ⊎ (option_map refused_stop
+        (size_refusal DepmodFile.Devname (nodes_text (nodes_of tree.now)))
+        ≡ Some stop)) }
 {
     let nodes = nodes(alloc, tree)?;
     let text = nodes_text(alloc, &nodes)?;
@@ -95,7 +102,8 @@ fn make_devname(alloc: Global, tree: &TreeFacts) -> Result<Blob, Stop>
 /// Returns how a file that is too large stops the command: by its name, or because there is no
 /// memory for that.
 fn too_large(alloc: Global, file: DepmodFile) -> Stop
-    ensures { (result ≡ Stop.Memory) ⊎ (result ≡ refused_stop (Refusal.OutputTooLarge (file_name file))) }
+    ensures { (result ≡ Stop.Memory)
+        ⊎ (result ≡ refused_stop (Refusal.OutputTooLarge (file_name file))) }
 {
     match Name::from_slice(alloc, file.name()) {
         Ok(file) => Stop::from(Refusal::OutputTooLarge { file }),

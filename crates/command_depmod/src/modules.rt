@@ -5,7 +5,8 @@ ghost use Rattle.km_course.specs.FollowsOn.{FollowsOnFiles, Returns};
 ghost use Rattle.command_depmod.specs.Tree.{AreTreePaths};
 ghost use Rattle.module_facts.specs.Faults.{fact_fault};
 ghost use Rattle.provider_rel.specs.Tree.{IsTree};
-ghost use Rattle.command_depmod.specs.Modules.{AreFactsAt, facts_outcome, reads_facts, reads_modules_facts};
+ghost use Rattle.command_depmod.specs.Modules.{AreFactsAt, facts_outcome, reads_facts};
+ghost use Rattle.command_depmod.specs.Modules.{reads_modules_facts};
 
 use km_course::{Refusal, Stop, read_needed_into};
 use km_names::{PathText, is_compressed, join};
@@ -61,7 +62,8 @@ fn read_facts<F: Reads>(
 /// Returns the facts of the module of these bytes at a path of the tree, or its refusal.
 fn check_facts(alloc: Global, path: &PathText, bytes: &[u8]) -> Result<Facts, Stop>
     requires { length bytes.now ≤ file_limit }
-    ensures answers { Returns (facts_outcome path.now bytes.now (fact_fault path.now bytes.now)) result }
+    ensures answers { Returns (facts_outcome path.now bytes.now (fact_fault path.now bytes.now))
+        result }
     ensures facts { IfOk result (λ facts. AreFactsAt path.now facts) }
 {
     match module_facts::read_facts(alloc, path, bytes) {

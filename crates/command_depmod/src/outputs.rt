@@ -1,10 +1,12 @@
 // The files that depmod makes, and where they are written.
-ghost use Rattle.km_course.specs.FollowsOn.{FollowsOnFiles, FollowsOnFilesAndOut, FollowsOnOut, Returns};
+ghost use Rattle.km_course.specs.FollowsOn.{FollowsOnFiles, FollowsOnFilesAndOut, FollowsOnOut};
+ghost use Rattle.km_course.specs.FollowsOn.{Returns};
 ghost use Rattle.depmod_core.specs.Files.{files as files_spec};
 ghost use Rattle.provider_rel.specs.Faces.{kernel_of};
 ghost use Rattle.command_depmod.specs.Related.{IsRelated, seen_tree};
 ghost use Rattle.command_depmod.specs.Files.{all_files, text_files};
-ghost use Rattle.command_depmod.specs.Outputs.{hands_out, makes_files, outputs_outcome, puts_each, puts_file, says_each, says_file};
+ghost use Rattle.command_depmod.specs.Outputs.{hands_out, makes_files, outputs_outcome, puts_each};
+ghost use Rattle.command_depmod.specs.Outputs.{puts_file, says_each, says_file};
 
 use crate::extra::{make_extra, read_info};
 use crate::files::{DepmodFile, DepmodFiles};
@@ -65,7 +67,9 @@ pub(crate) fn make_files<F: Reads>(
 /// too large.
 fn check_outputs(alloc: Global, tree: &RelatedTree, builtin: &Blob) -> Result<OutputFiles, Stop>
     requires { IsRelated tree.now }
-    ensures { Returns (outputs_outcome (files_spec tree.now.facts (kernel_of tree.now.kernel) builtin.now)) result }
+    ensures { Returns
+        (outputs_outcome (files_spec tree.now.facts (kernel_of tree.now.kernel) builtin.now))
+        result }
 {
     match outputs(alloc, &tree.relation, &tree.facts, builtin.as_bytes()) {
         Ok(made) => Ok(made),

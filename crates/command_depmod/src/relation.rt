@@ -21,7 +21,8 @@ pub(crate) struct RelatedTree {
 /// Relates the modules of a tree over a kernel, or refuses the tree.
 pub(crate) fn relate(alloc: Global, facts: TreeFacts, kernel: Kernel) -> Result<RelatedTree, Stop>
     requires { IsTree facts }
-    ensures answers { Answers seen_tree (relation_outcome (record { facts = facts; kernel = kernel_of kernel })) result }
+    ensures answers { Answers seen_tree
+        (relation_outcome (record { facts = facts; kernel = kernel_of kernel })) result }
     ensures related { IfOk result (λ tree. IsRelated tree) }
 {
     match Relation::make(alloc, &facts, &kernel) {

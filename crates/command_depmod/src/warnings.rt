@@ -84,7 +84,8 @@ fn warning(alloc: Global, versions: bool, obstacle: &Unbound) -> Result<Option<B
 
 /// Returns the line of a warning.
 fn line(alloc: Global, path: &PathText, what: &[u8], symbol: &Name) -> Result<Blob, AllocError>
-    ensures { IfOk result (λ text. text ≡ line (codes "warning: " ++ (path.now ++ (what.now ++ symbol.now)))) }
+    ensures { IfOk result
+        (λ text. text ≡ line (codes "warning: " ++ (path.now ++ (what.now ++ symbol.now)))) }
 {
     let mut text = Blob::from_slice(alloc, b"kmod: warning: ")?;
     text.extend(path.as_bytes())?;

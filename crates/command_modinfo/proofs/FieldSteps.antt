@@ -9,11 +9,14 @@ use Rattle.modinfo_tool.specs.Show.{shown_text, values_under, lines_asked, ended
 use Rattle.command_modinfo.specs.PlainKeys.{stands_for_else, plain_key}
 
 -- the values of a key that stands for nothing else
-under-key : (path key : List ℕ) (fields : List Field) → stands_for_else key ≡ false → values_under key path fields ≡ values_of_key key fields
+under-key : (path key : List ℕ) (fields : List Field) → stands_for_else key ≡ false
+    → values_under key path fields ≡ values_of_key key fields
 unfolding values_under stands_for_else
-under-key path key fields is = by_tests (bytes_eq key (codes "filename")) (bytes_eq key (codes "parm")) refl refl
+under-key path key fields is =
+    by_tests (bytes_eq key (codes "filename")) (bytes_eq key (codes "parm")) refl refl
   where
-    by_tests : (f p : Bool) → bytes_eq key (codes "filename") ≡ f → bytes_eq key (codes "parm") ≡ p → values_under key path fields ≡ values_of_key key fields
+    by_tests : (f p : Bool) → bytes_eq key (codes "filename") ≡ f → bytes_eq key (codes "parm") ≡ p
+        → values_under key path fields ≡ values_of_key key fields
     by_tests true p e d = absurd (differ (rw e at is))
       where
         differ : true ≡ false → ⊥
@@ -24,18 +27,23 @@ under-key path key fields is = by_tests (bytes_eq key (codes "filename")) (bytes
         differ h = cc
     by_tests false false e d = rw (e, d) refl
 
-pub shown-by-key : (path : List ℕ) (options : ShowOptions) (key : List ℕ) (fields : List Field) → Some key ≡ plain_key options.field → ended (line_end options.zero) (values_of_key key fields) ≡ shown_text path fields options
+pub shown-by-key : (path : List ℕ) (options : ShowOptions) (key : List ℕ) (fields : List Field)
+    → Some key ≡ plain_key options.field
+    → ended (line_end options.zero) (values_of_key key fields) ≡ shown_text path fields options
 unfolding shown_text
-shown-by-key path options key fields is = ap (ended (line_end options.zero)) (by_field options.field is)
+shown-by-key path options key fields is =
+    ap (ended (line_end options.zero)) (by_field options.field is)
   where
     none : Some key ≡ None → ⊥
     none h = cc
 
-    by_field : (field : Option (List ℕ)) → Some key ≡ plain_key field → values_of_key key fields ≡ lines_asked field path fields
+    by_field : (field : Option (List ℕ)) → Some key ≡ plain_key field
+        → values_of_key key fields ≡ lines_asked field path fields
     by_field None h = absurd (none h)
     by_field (Some k) h = by_test (stands_for_else k) refl
       where
-        by_test : (t : Bool) → stands_for_else k ≡ t → values_of_key key fields ≡ values_under k path fields
+        by_test : (t : Bool) → stands_for_else k ≡ t
+            → values_of_key key fields ≡ values_under k path fields
         by_test true e = absurd (none (rw e at h))
         by_test false e = let f : Some key ≡ Some k = rw e at h in let g : key ≡ k = cc in
             ap (λ n. values_of_key n fields) g ∙ sym (under-key path k fields e)

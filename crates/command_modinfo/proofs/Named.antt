@@ -1,5 +1,6 @@
 -- The section of a name, found by its place.
-use Rattle.std.proofs.Common.{◌≡◌, ℕ, ◌<◌, Bool, true, false, List, [], length, refl, sym, ap, subst, ◌∙◌, arith, inl, inr, cond}
+use Rattle.std.proofs.Common.{◌≡◌, ℕ, ◌<◌, Bool, true, false, List, [], length, refl, sym, ap}
+use Rattle.std.proofs.Common.{subst, ◌∙◌, arith, inl, inr, cond}
 use Rattle.std.specs.Prelude.{Some, None, IfSome, nat_lt}
 use Rattle.std.specs.List.{find, position, position_or_len, slice_get}
 use Rattle.std.proofs.lemmas.Bool.{lt-ltb, ltb-true}
@@ -20,9 +21,13 @@ from_none : (b : Bool) (n : ℕ) → None ≡ cond b (Some n) None → b ≡ fal
 from_none true n e = cc
 from_none false n e = refl
 
-pub named-found : (p : Section → Bool) (file : List ℕ) (list : List Section) (i : ℕ) (bytes : List ℕ) → Some i ≡ position p list → IfSome (slice_get list i) (λ s. bytes ≡ bytes_of file s) → bytes ≡ bytes_if_any file (find p list)
+pub named-found : (p : Section → Bool) (file : List ℕ) (list : List Section) (i : ℕ)
+    (bytes : List ℕ)
+    → Some i ≡ position p list → IfSome (slice_get list i) (λ s. bytes ≡ bytes_of file s)
+    → bytes ≡ bytes_if_any file (find p list)
 named-found p file list i bytes e h =
-    let q = from_some (nat_lt (position_or_len p list) (length list)) (position_or_len p list) i e in
+    let q
+    = from_some (nat_lt (position_or_len p list) (length list)) (position_or_len p list) i e in
     let within : i < length list = subst (λ n. n < length list) q.1 (ltb-true _ _ q.0) in
     let place : find p list ≡ slice_get list i = find_at p list ∙ ap (slice_get list) q.1 in
     elim (slice_get_cases list i).1 [
@@ -32,11 +37,14 @@ named-found p file list i bytes e h =
       | inr past ↦ absurd (omega arith)
     ]
 
-pub named-absent : (p : Section → Bool) (file : List ℕ) (list : List Section) → None ≡ position p list → [] ≡ bytes_if_any file (find p list)
+pub named-absent : (p : Section → Bool) (file : List ℕ) (list : List Section)
+    → None ≡ position p list → [] ≡ bytes_if_any file (find p list)
 named-absent p file list e =
-    let past = from_none (nat_lt (position_or_len p list) (length list)) (position_or_len p list) e in
+    let past
+    = from_none (nat_lt (position_or_len p list) (length list)) (position_or_len p list) e in
     elim (slice_get_cases list (position_or_len p list)).1 [
-      | inl found ↦ absurd (differ (nat_lt (position_or_len p list) (length list)) past (lt-ltb _ _ found.1))
+      | inl found ↦ absurd
+          (differ (nat_lt (position_or_len p list) (length list)) past (lt-ltb _ _ found.1))
       | inr none ↦ subst (λ o. [] ≡ bytes_if_any file o) (sym (find_at p list ∙ none.1)) refl
     ]
   where

@@ -1,5 +1,6 @@
 -- The stages of a kernel's modules and of the words of `modinfo`, joined.
-use Rattle.std.proofs.Common.{◌≡◌, ℕ, ◌+◌, ◌<◌, List, ◌∷◌, length, drop, get_or, sym, ap, ◌∙◌, subst}
+use Rattle.std.proofs.Common.{◌≡◌, ℕ, ◌+◌, ◌<◌, List, ◌∷◌, length, drop, get_or, sym, ap, ◌∙◌}
+use Rattle.std.proofs.Common.{subst}
 use Rattle.std.proofs.lemmas.List.{drop_more}
 use Rattle.std.specs.Prelude.{Option, Some, Result, ⊤}
 use Rattle.elf_sections.specs.Sections.{FileSections}
@@ -29,18 +30,24 @@ abbrev pub said : List ℕ → ShowOptions → FileSections → Stage ⊤
 said path options sections = says_any (shown_text path (module_fields sections) options)
 
 -- a version names the folder whose modules are read
-pub by_version : (version : Option (List ℕ)) (root v folder : List ℕ) (old new : World) (r : Result Source Stop) → version ≡ Some v → folder ≡ modules_folder root v → Follows (λ x. x) (reads_modules folder >>= named) old new r → Follows (λ x. x) (reads_source version root) old new r
+pub by_version : (version : Option (List ℕ)) (root v folder : List ℕ) (old new : World)
+    (r : Result Source Stop)
+    → version ≡ Some v → folder ≡ modules_folder root v
+    → Follows (λ x. x) (reads_modules folder >>= named) old new r
+    → Follows (λ x. x) (reads_source version root) old new r
 by_version version root v folder old new r is below f =
     subst (λ given. Follows (λ (x : Source). x) (reads_source given root) old new r) (sym is)
     (subst (λ at. Follows (λ (x : Source). x) (reads_modules at >>= named) old new r) below f)
 
 -- the words from one on: it, and the words after it
-pub next-word : (words : List (List ℕ)) (i : ℕ) (word : List ℕ) → i < length words → word ≡ get_or words i word → drop i words ≡ word ∷ drop (i + 1) words
+pub next-word : (words : List (List ℕ)) (i : ℕ) (word : List ℕ) → i < length words
+    → word ≡ get_or words i word → drop i words ≡ word ∷ drop (i + 1) words
 next-word words i word h is = drop_more words i word h ∙ ap (λ w. w ∷ drop (i + 1) words) (sym is)
 
 -- the stage of the words after the first one
 abbrev pub shows_rest : Source → ShowOptions → List (List ℕ) → ⊤ → Stage ⊤
-shows_rest source options words shown = each_from (λ (_ : ⊤) word. shows_word source options word) shown words
+shows_rest source options words shown =
+    each_from (λ (_ : ⊤) word. shows_word source options word) shown words
 
 -- the stage after the source of the words was read
 abbrev pub shows_from : ShowOptions → List (List ℕ) → Source → Stage ⊤

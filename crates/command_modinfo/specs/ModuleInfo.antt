@@ -15,7 +15,8 @@ bytes_if_any file (Some section) = bytes_of file section
 -- The bytes of the first section of this name, or none if there is no such section. gABI 4,
 -- "Sections".
 unfoldable pub bytes_named : List ℕ → FileSections → List ℕ
-bytes_named name sections = bytes_if_any sections.file (find (λ s. bytes_eq s.name name) sections.list)
+bytes_named name sections =
+    bytes_if_any sections.file (find (λ s. bytes_eq s.name name) sections.list)
 
 -- What the module says of itself: the fields of its first `.modinfo` section.
 abbrev pub module_fields : FileSections → List Field

@@ -1,6 +1,7 @@
 ghost use Rattle.std.specs.Prelude.{⊤};
 ghost use Rattle.km_course.specs.FollowsOn.{FollowsOnFiles, FollowsOnFilesAndOut, Returns};
-ghost use Rattle.command_modinfo.specs.Modinfo.{modinfo_course, path_asked, reads_source, shows, shows_asked, shows_each, shows_word};
+ghost use Rattle.command_modinfo.specs.Modinfo.{modinfo_course, path_asked, reads_source, shows};
+ghost use Rattle.command_modinfo.specs.Modinfo.{shows_asked, shows_each, shows_word};
 
 use crate::module_info::module_text;
 use km_course::{End, Stop, say_any};

@@ -18,7 +18,8 @@ pub(crate) fn module_text(
     sections: &Sections,
     options: &ShowOptions,
 ) -> Result<Blob, AllocError>
-    ensures { IfOk result (λ text. text ≡ shown_text path.now (module_fields sections.now) options.now) }
+    ensures { IfOk result
+        (λ text. text ≡ shown_text path.now (module_fields sections.now) options.now) }
 {
     let section = module_info(sections);
     match plain_key(&options.field) {

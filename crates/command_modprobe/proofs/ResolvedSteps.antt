@@ -19,6 +19,13 @@ abbrev pub after_names : List (List ℕ) → Stage ⊤
 after_names names = says_any (lines_of_names names)
 
 -- what is asked for, where its request is this
-pub resolves-asked : (asked : ModprobeWords) (request : Request) (old new : World) (r : Result ⊤ Stop) → request ≡ request_of asked → Follows (λ x. x) (reads_known asked.config (modules_folder asked.dirname asked.version) asked.loaded >>= prints_names request) old new r → Follows (λ x. x) (resolves_alias asked) old new r
+pub resolves-asked : (asked : ModprobeWords) (request : Request) (old new : World)
+    (r : Result ⊤ Stop)
+    → request ≡ request_of asked
+    → Follows (λ x. x)
+    (reads_known asked.config (modules_folder asked.dirname asked.version) asked.loaded
+    >>= prints_names request) old new r
+    → Follows (λ x. x) (resolves_alias asked) old new r
 resolves-asked asked request old new r what f =
-    along (λ q. reads_known asked.config (modules_folder asked.dirname asked.version) asked.loaded >>= prints_names q) request (request_of asked) what f
+    along (λ q. reads_known asked.config (modules_folder asked.dirname asked.version) asked.loaded
+    >>= prints_names q) request (request_of asked) what f

@@ -56,7 +56,8 @@ images_asked asked = record { folder = asked.image; params = asked.params }
 
 -- The listed modules go into the machine, the lines of the plan are printed, and the modules of the
 -- plan are loaded.
-abbrev pub loads_steps : List ℕ → Images → Known → Machine → List PlanStep → List Insertion → Stage ⊤
+abbrev pub loads_steps : List ℕ → Images → Known → Machine → List PlanStep → List Insertion
+    → Stage ⊤
 loads_steps folder images known machine steps inserts = do
   listed ← loads_listed folder known.indexes.dep machine known.loaded
   said ← says_any (plan_lines folder steps)
@@ -75,4 +76,5 @@ abbrev pub loads_plan : ModprobeWords → List ℕ → Stage ⊤
 loads_plan asked system_map = do
   known ← reads_known asked.config (modules_folder asked.dirname asked.version) asked.loaded
   machine ← reads_machine system_map asked.symvers (region_asked asked)
-  loads_request (modules_folder asked.dirname asked.version) (images_asked asked) (request_of asked) known machine
+  loads_request (modules_folder asked.dirname asked.version) (images_asked asked) (request_of asked)
+      known machine

@@ -25,7 +25,8 @@ prints_names request known = do
   says_any (lines_of_names names)
 
 -- The machine is read, and the plan of a request is made and loaded.
-abbrev pub loads_known : List ℕ → Images → Request → List ℕ → Option (List ℕ) → Region → Known → Stage ⊤
+abbrev pub loads_known : List ℕ → Images → Request → List ℕ → Option (List ℕ) → Region → Known
+    → Stage ⊤
 loads_known folder images request system_map symvers region known = do
   machine ← reads_machine system_map symvers region
   loads_request folder images request known machine

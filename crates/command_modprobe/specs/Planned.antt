@@ -1,10 +1,12 @@
 -- The plan of what is asked for, and its lines. modprobe(8), `--dry-run` and `--show-depends`.
-use Rattle.std.specs.Prelude.{ℕ, List, [], ◌∷◌, ◌++◌, drop, codes, Option, Some, None, if◌then◌else◌, ⊤}
+use Rattle.std.specs.Prelude.{ℕ, List, [], ◌∷◌, ◌++◌, drop, codes, Option, Some, None}
+use Rattle.std.specs.Prelude.{if◌then◌else◌, ⊤}
 use Rattle.std.specs.List.{flat_map}
 use Rattle.km_names.specs.Path.{path_below}
 use Rattle.km_names.specs.Texts.{spaced}
 use Rattle.kmod_words.specs.declared.modprobe.Mode.{Mode}
-use Rattle.kmod_words.specs.declared.modprobe.Mode.TheVariants.{Load, DryRun, ShowDepends, ResolveAlias, Remove}
+use Rattle.kmod_words.specs.declared.modprobe.Mode.TheVariants.{Load, DryRun, ShowDepends}
+use Rattle.kmod_words.specs.declared.modprobe.Mode.TheVariants.{ResolveAlias, Remove}
 use Rattle.kmod_words.specs.declared.modprobe.ModprobeWords.{ModprobeWords}
 use Rattle.plan_builder.specs.declared.request.Request.{Request}
 use Rattle.plan_builder.specs.declared.step.PlanStep.{PlanStep}
@@ -49,7 +51,8 @@ plan_unless (Some text) steps = end (Refused (Unplanned text))
 -- obstacle.
 unfoldable pub plan_outcome : Known → List (List ℕ) → Request → Outcome (List PlanStep)
 plan_outcome known loaded request =
-    plan_unless (first_obstacle_text (sources_with known loaded request) request) (plan_steps (sources_with known loaded request) request)
+    plan_unless (first_obstacle_text (sources_with known loaded request) request)
+    (plan_steps (sources_with known loaded request) request)
 
 -- What follows a path in its line: the parameters after a space, if there are any.
 abbrev pub after_space : List ℕ → List ℕ
@@ -58,7 +61,8 @@ after_space (b ∷ bs) = 32 ∷ b ∷ bs
 
 -- The line of a module that is loaded, by its whole path and its parameters.
 abbrev pub insert_line : List ℕ → List ℕ → List ℕ → List ℕ
-insert_line folder path options = codes "insmod " ++ (path_below folder path ++ (after_space options ++ 10 ∷ []))
+insert_line folder path options =
+    codes "insmod " ++ (path_below folder path ++ (after_space options ++ 10 ∷ []))
 
 -- The line of a step of a plan for the modules in a folder.
 abbrev pub step_line : List ℕ → PlanStep → List ℕ

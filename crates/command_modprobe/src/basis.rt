@@ -33,7 +33,8 @@ pub(crate) fn read_basis<F: Reads>(
     asked: ModprobeWords,
     files: &mut F,
 ) -> Result<Basis, Stop>
-    ensures folder { IfOk result (λ basis. basis.folder ≡ modules_folder asked.dirname asked.version) }
+    ensures folder { IfOk result
+        (λ basis. basis.folder ≡ modules_folder asked.dirname asked.version) }
     ensures request { IfOk result (λ basis. basis.request ≡ request_of asked) }
     ensures known { FollowsOnFilesAs (λ basis. basis.known)
         (reads_known asked.config (modules_folder asked.dirname asked.version) asked.loaded)

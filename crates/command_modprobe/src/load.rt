@@ -1,7 +1,8 @@
 // Plans that are loaded.
 ghost use Rattle.std.specs.Prelude.{◌≡◌, ◌⊎◌, ◌++◌, OnOk, IfErr, None, Some, option_map};
 ghost use Rattle.km_course.specs.FollowsOn.{FollowsOnFilesAndOut, Returns};
-ghost use Rattle.command_modprobe.specs.Loaded.{command_owner, inserted, inserts_outcome, install_stop};
+ghost use Rattle.command_modprobe.specs.Loaded.{command_owner, inserted, inserts_outcome};
+ghost use Rattle.command_modprobe.specs.Loaded.{install_stop};
 ghost use Rattle.command_modprobe.specs.Loaded.{loads_plan, loads_request, loads_steps};
 ghost use Rattle.command_modprobe.specs.Parts.{loads_known};
 
@@ -16,9 +17,9 @@ use plan_builder::{PlanStep, PlanSteps};
 use stages_loads::{Images, Insertion, Insertions, load_all, load_listed, read_machine};
 use std::alloc::Global;
 
-/// Prints the plan for the requested names. It loads the plan's modules into the modelled machine of
-/// this System.map, after those that are listed as loaded. A plan that runs a command is refused.
-/// modprobe(8).
+/// Prints the plan for the requested names. It loads the plan's modules into the modelled machine
+/// of this System.map, after those that are listed as loaded. A plan that runs a command is
+/// refused. modprobe(8).
 pub(crate) fn load_plan<F: Writes, O: Out>(
     alloc: Global,
     mut asked: ModprobeWords,
@@ -129,7 +130,9 @@ fn inserts_of(alloc: Global, steps: &PlanSteps) -> Result<Insertions, Stop>
 fn push_insert(alloc: Global, inserts: &mut Insertions, step: &PlanStep) -> Result<(), Stop>
     ensures passed { OnOk result (command_owner step.now ≡ None) }
     ensures inserts { OnOk result (inserts.new ≡ inserts.old ++ inserted step.now) }
-    ensures err { IfErr result (λ stop. (stop ≡ Stop.Memory) ⊎ (option_map install_stop (command_owner step.now) ≡ Some stop)) }
+    ensures err { IfErr result
+        (λ stop. (stop ≡ Stop.Memory)
+        ⊎ (option_map install_stop (command_owner step.now) ≡ Some stop)) }
 {
     match step {
         PlanStep::Insert { path, options, .. } => {

@@ -8,7 +8,8 @@ ghost use Rattle.km_course.specs.declared.stop.Stop.TheVariants.{Ended, Memory};
 ghost use Rattle.plan_builder.specs.declared.obstacle.Obstacle.TheVariants as obstacles;
 ghost use Rattle.plan_builder.specs.Text.{obstacle_text};
 ghost use Rattle.command_modprobe.specs.Parts.{prints_plan};
-ghost use Rattle.command_modprobe.specs.Planned.{insert_line, loaded_in, plan_lines, plan_outcome, shows_plan, step_line};
+ghost use Rattle.command_modprobe.specs.Planned.{insert_line, loaded_in, plan_lines, plan_outcome};
+ghost use Rattle.command_modprobe.specs.Planned.{shows_plan, step_line};
 
 use crate::basis::{Basis, read_basis};
 use km_course::{Refusal, Stop, say_any};
@@ -52,7 +53,8 @@ pub(crate) fn plan_in(
     known: &Known,
     request: &Request,
 ) -> Result<PlanSteps, Stop>
-    ensures { Returns (plan_outcome known.now (loaded_in mode known.now.loaded) request.now) result }
+    ensures { Returns (plan_outcome known.now (loaded_in mode known.now.loaded) request.now)
+        result }
 {
     match mode {
         Mode::ShowDepends => plan_with(alloc, known, &Loaded::new(alloc), request),
@@ -87,7 +89,8 @@ fn plan_with(
 /// Returns how an obstacle stops the command: by the refusal that carries its text.
 fn refused(alloc: Global, obstacle: &Obstacle) -> Stop
     ensures { (result ≡ Memory)
-        ⊎ ((result ≡ Ended (Refused (Obstacle_spec (obstacle_text obstacle.now)))) × ¬ (obstacle.now ≡ obstacles.Memory)) }
+        ⊎ ((result ≡ Ended (Refused (Obstacle_spec (obstacle_text obstacle.now))))
+        × ¬ (obstacle.now ≡ obstacles.Memory)) }
 {
     if matches!(obstacle, Obstacle::Memory) {
         return Stop::Memory;

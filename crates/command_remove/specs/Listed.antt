@@ -17,8 +17,10 @@ well_formed_path indexes name =
 
 -- The listed module of a name is looked up, read, and goes into the machine.
 abbrev pub takes_listed_one : List ℕ → Indexes → Machine → List ℕ → Stage Machine
-takes_listed_one folder indexes machine name = loads_listed_at folder machine name (well_formed_path indexes name)
+takes_listed_one folder indexes machine name =
+    loads_listed_at folder machine name (well_formed_path indexes name)
 
 -- The listed modules, the oldest first; the list has the newest first.
 abbrev pub takes_listed : List ℕ → Indexes → Machine → List (List ℕ) → Stage Machine
-takes_listed folder indexes machine names = each_from (takes_listed_one folder indexes) machine (reverse names)
+takes_listed folder indexes machine names =
+    each_from (takes_listed_one folder indexes) machine (reverse names)

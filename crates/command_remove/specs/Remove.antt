@@ -32,13 +32,16 @@ use Rattle.command_remove.specs.Lines.{left_lines, step_lines, unloaded_line}
 -- by their places, or none is.
 abbrev pub steps_unless : Machine → Option (ℕ × ℕ) → List RemoveStep → Outcome (List RemoveStep)
 steps_unless machine None steps = value steps
-steps_unless machine (Some used) steps = end (Refused (InUse (name_at machine used.0) (name_at machine used.1)))
+steps_unless machine (Some used) steps =
+    end (Refused (InUse (name_at machine used.0) (name_at machine used.1)))
 
 -- What the names of modules result in: the steps that take them out, or the refusal of the oldest
 -- that is in use, with its oldest user.
-unfoldable pub steps_outcome : Machine → List Rule → Bool → List (List ℕ) → Outcome (List RemoveStep)
+unfoldable pub steps_outcome : Machine → List Rule → Bool → List (List ℕ)
+    → Outcome (List RemoveStep)
 steps_outcome machine rules ignored names =
-    steps_unless machine (in_use machine (is_asked machine names)) (removal_steps machine rules ignored names)
+    steps_unless machine (in_use machine (is_asked machine names))
+    (removal_steps machine rules ignored names)
 
 -- The module that a step is for, and the one for which it runs a command.
 abbrev pub step_name : RemoveStep → List ℕ
@@ -124,4 +127,5 @@ abbrev pub removes : Bool → ModprobeWords → List ℕ → Stage ⊤
 removes dry_run asked system_map = do
   known ← reads_known asked.config (modules_folder asked.dirname asked.version) asked.loaded
   machine ← reads_machine system_map asked.symvers (region_asked asked)
-  removes_listed (modules_folder asked.dirname asked.version) (removal_of dry_run asked) known machine
+  removes_listed (modules_folder asked.dirname asked.version) (removal_of dry_run asked) known
+      machine

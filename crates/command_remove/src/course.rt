@@ -166,7 +166,8 @@ fn remove_names<O: Out>(
     listed: &mut Machine,
     out: &mut O,
 ) -> Result<(), Stop>
-    requires { (kernel : Kernel) × (region : Region) × (ms : List Module) × IsLoaded kernel region ms listed.old }
+    requires { (kernel : Kernel) × (region : Region) × (ms : List Module)
+        × IsLoaded kernel region ms listed.old }
     ensures { FollowsOnOut (removes_names removal.now known.now listed.old)
         O.seen out.old out.new result }
 {

@@ -1,7 +1,8 @@
 // The lines of a removal.
 ghost use Rattle.std.specs.Prelude.{◌≡◌, ◌<◌, ◌++◌, IfOk, OnOk, Some, length, slice_get};
 ghost use Rattle.model_loader.specs.declared.entry.Entry.{Entry};
-ghost use Rattle.command_remove.specs.Lines.{left_line, left_lines, line_of_two, step_line, step_lines};
+ghost use Rattle.command_remove.specs.Lines.{left_line, left_lines, line_of_two, step_line};
+ghost use Rattle.command_remove.specs.Lines.{step_lines};
 
 use km_names::Blob;
 use model_loader::Machine;
@@ -54,7 +55,8 @@ pub(crate) fn left_lines(alloc: Global, machine: &Machine) -> Result<Blob, Alloc
 /// Returns the line of the module that was loaded `i`-th.
 fn left_line(alloc: Global, machine: &Machine, i: usize) -> Result<Blob, AllocError>
     requires { i < length machine.now.entries }
-    ensures { IfOk result (λ line. (e : Entry) → slice_get machine.now.entries i ≡ Some e → line ≡ left_line e) }
+    ensures { IfOk result
+        (λ line. (e : Entry) → slice_get machine.now.entries i ≡ Some e → line ≡ left_line e) }
 {
     entry_line(alloc, b"left", machine.module_at(i), machine.image_at(i))
 }

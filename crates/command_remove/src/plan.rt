@@ -1,7 +1,8 @@
 // The steps of a removal.
 ghost use Rattle.std.specs.Prelude.{◌≡◌, option_map};
 ghost use Rattle.km_course.specs.FollowsOn.{Returns};
-ghost use Rattle.command_remove.specs.Remove.{chosen_outcome, command_owner, first_owner, steps_outcome};
+ghost use Rattle.command_remove.specs.Remove.{chosen_outcome, command_owner, first_owner};
+ghost use Rattle.command_remove.specs.Remove.{steps_outcome};
 
 use km_course::{Refusal, Stop};
 use km_names::{Name, Names};

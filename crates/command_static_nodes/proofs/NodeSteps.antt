@@ -22,7 +22,13 @@ abbrev pub said : List Node → Stage ⊤
 said nodes = says_any (lines_text nodes)
 
 -- what is asked for, where its folder and its file are these
-pub at-asked : (asked : StaticNodesWords) (folder file : List ℕ) (old new : World) (r : Result ⊤ Stop) → folder ≡ modules_folder asked.dirname asked.version → file ≡ path_below folder (codes "modules.devname") → Follows (λ x. x) (reads_nodes file >>= said) old new r → Follows (λ x. x) (shows_nodes asked) old new r
+pub at-asked : (asked : StaticNodesWords) (folder file : List ℕ) (old new : World)
+    (r : Result ⊤ Stop)
+    → folder ≡ modules_folder asked.dirname asked.version
+    → file ≡ path_below folder (codes "modules.devname")
+    → Follows (λ x. x) (reads_nodes file >>= said) old new r
+    → Follows (λ x. x) (shows_nodes asked) old new r
 at-asked asked folder file old new r place is f =
-    subst (λ p. Follows (λ (x : ⊤). x) (reads_nodes (path_below p (codes "modules.devname")) >>= said) old new r) place
+    subst (λ p. Follows (λ (x : ⊤). x)
+    (reads_nodes (path_below p (codes "modules.devname")) >>= said) old new r) place
     (subst (λ p. Follows (λ (x : ⊤). x) (reads_nodes p >>= said) old new r) is f)

@@ -19,7 +19,8 @@ reads_nodes file = do
 -- The course of a request: the lines of the nodes of a kernel's modules.devname are one writing.
 abbrev pub shows_nodes : StaticNodesWords → Stage ⊤
 shows_nodes asked = do
-  nodes ← reads_nodes (path_below (modules_folder asked.dirname asked.version) (codes "modules.devname"))
+  nodes ← reads_nodes
+      (path_below (modules_folder asked.dirname asked.version) (codes "modules.devname"))
   says_any (lines_text nodes)
 
 -- the course of what the words ask for

@@ -3,7 +3,8 @@ ghost use Rattle.km_names.specs.Limit.{file_limit};
 ghost use Rattle.km_course.specs.FollowsOn.{FollowsOnFiles, FollowsOnFilesAndOut, Returns};
 ghost use Rattle.devname_nodes.specs.File.{read_of};
 ghost use Rattle.stages_files.specs.Configuration.{stated_outcome};
-ghost use Rattle.command_static_nodes.specs.StaticNodes.{reads_nodes, shows_nodes, static_nodes_course};
+ghost use Rattle.command_static_nodes.specs.StaticNodes.{reads_nodes, shows_nodes};
+ghost use Rattle.command_static_nodes.specs.StaticNodes.{static_nodes_course};
 
 use devname_nodes::{NodeList, node_lines, read_nodes};
 use km_course::{End, Stop, read_needed, say_any};

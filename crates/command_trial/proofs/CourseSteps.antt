@@ -25,12 +25,26 @@ abbrev pub loads_after : TrialWords → Left → Stage ⊤
 loads_after asked indexed = loads_made asked.count indexed.files >>= says_after asked indexed
 
 -- the made tree was indexed
-pub indexed : {T : Type 0} (view : T → Left) (asked : TrialWords) (files : MemFilesSeen) (w : World) (r : Result T Stop) → files ≡ trial_files asked.seed asked.count → Answers view (inner_outcome inner_room ((depmod_course depmod_words).run files.contents) files.contents) r → Follows view (indexes_made (trial_contents asked.seed asked.count)) w w r
+pub indexed : {T : Type 0} (view : T → Left) (asked : TrialWords) (files : MemFilesSeen) (w : World)
+    (r : Result T Stop)
+    → files ≡ trial_files asked.seed asked.count
+    → Answers view
+    (inner_outcome inner_room ((depmod_course depmod_words).run files.contents) files.contents)
+    r
+    → Follows view (indexes_made (trial_contents asked.seed asked.count)) w w r
 indexed view asked files w r made a =
     subst (λ (fs : MemFilesSeen). Follows view (indexes_made fs.contents) w w r) made
-    (answered view (inner_outcome inner_room ((depmod_course depmod_words).run files.contents) files.contents) w r a)
+    (answered view (inner_outcome inner_room ((depmod_course depmod_words).run files.contents)
+    files.contents) w r a)
 
 -- its modules were loaded
-pub loaded : {T : Type 0} (view : T → Left) (asked : TrialWords) (left : Left) (w : World) (r : Result T Stop) → Answers view (inner_outcome inner_room ((modprobe_course (modprobe_words asked.count)).run left.files) left.files) r → Follows view (loads_made asked.count left.files) w w r
+pub loaded : {T : Type 0} (view : T → Left) (asked : TrialWords) (left : Left) (w : World)
+    (r : Result T Stop)
+    → Answers view
+    (inner_outcome inner_room ((modprobe_course (modprobe_words asked.count)).run left.files)
+    left.files) r
+    → Follows view (loads_made asked.count left.files) w w r
 loaded view asked left w r a =
-    answered view (inner_outcome inner_room ((modprobe_course (modprobe_words asked.count)).run left.files) left.files) w r a
+    answered view
+    (inner_outcome inner_room ((modprobe_course (modprobe_words asked.count)).run left.files)
+    left.files) w r a

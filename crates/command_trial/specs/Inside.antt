@@ -11,7 +11,8 @@ use Rattle.km_course.specs.declared.refusal.Refusal.TheVariants.{InnerOutputFull
 
 -- The outcome is the one that the conclusion states of a command that left these files and this
 -- output, and wrote this line. Its files don't fail, so that a fault is a full output.
-pub record Came (outcome : Outcome Left) (left : Left) (line : List ℕ) (conclusion : Conclusion) : Type 0 where
+pub record Came (outcome : Outcome Left) (left : Left) (line : List ℕ) (conclusion : Conclusion) :
+    Type 0 where
   pub ended : conclusion ≡ conclusions.Done → outcome ≡ value left
   pub refused : conclusion ≡ conclusions.Refused → outcome ≡ end (Inner line)
   pub misunderstood : conclusion ≡ conclusions.NotUnderstood → outcome ≡ end NotUnderstood

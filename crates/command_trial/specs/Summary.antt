@@ -1,6 +1,7 @@
 -- What a trial says: five numbers, read off what its two commands left. The form is this project's
 -- own.
-use Rattle.std.specs.Prelude.{ℕ, ◌==◌, List, [], ◌∷◌, ◌++◌, length, codes, Option, Some, None, unwrap_or}
+use Rattle.std.specs.Prelude.{ℕ, ◌==◌, List, [], ◌∷◌, ◌++◌, length, codes, Option, Some, None}
+use Rattle.std.specs.Prelude.{unwrap_or}
 use Rattle.std.specs.Fmt.{decimal}
 use Rattle.std.specs.List.{after_first, flat_map}
 use Rattle.std.specs.FinMap as map

@@ -4,7 +4,8 @@ ghost use Rattle.std.specs.Fmt.{decimal};
 ghost use Rattle.sha2.specs.Hashers.{Holds256};
 ghost use Rattle.sha2.specs.Sha256.{sha256};
 ghost use Rattle.km_outside.specs.Contents.{rest_after};
-ghost use Rattle.command_trial.specs.Summary.{bytes_at, dependencies_left, image_path, images_of, loaded, rest_if_any, stated, summary};
+ghost use Rattle.command_trial.specs.Summary.{bytes_at, dependencies_left, image_path, images_of};
+ghost use Rattle.command_trial.specs.Summary.{loaded, rest_if_any, stated, summary};
 
 use crate::lines::{count_lines, count_paths};
 use crate::words::IMAGES;
@@ -46,7 +47,8 @@ fn image_path(alloc: Global, rest: &[u8]) -> Result<PathText, AllocError>
 /// Returns the digest of the images, one after the other, of the modules that an output of modprobe
 /// says were loaded.
 fn digest_of_images(alloc: Global, files: &MemFiles, output: &[u8]) -> Result<[u8; 32], AllocError>
-    ensures { IfOk result (λ digest. digest ≡ sha256 (images_of files.now.contents (loaded output.now))) }
+    ensures { IfOk result
+        (λ digest. digest ≡ sha256 (images_of files.now.contents (loaded output.now))) }
 {
     let mut hasher = Sha256::new();
     let mut left = output;
@@ -66,7 +68,8 @@ fn add_image(
     line: &[u8],
 ) -> Result<(), AllocError>
     ensures { OnOk result ((before : List ℕ) → Holds256 hasher.old before
-        → Holds256 hasher.new (before ++ images_of files.now.contents (rest_if_any (rest_after LOADED.now line.now)))) }
+        → Holds256 hasher.new
+        (before ++ images_of files.now.contents (rest_if_any (rest_after LOADED.now line.now)))) }
 {
     if let Some(rest) = line.strip_prefix(LOADED) {
         let path = image_path(alloc, rest)?;
@@ -103,7 +106,10 @@ pub(crate) fn summary(
     files: &MemFiles,
     output: &[u8],
 ) -> Result<Blob, AllocError>
-    ensures { IfOk result (λ text. text ≡ summary modules dependencies (record { files = files.now.contents; out = output.now })) }
+    ensures { IfOk result
+        (λ text. text
+        ≡ summary modules dependencies
+        (record { files = files.now.contents; out = output.now })) }
 {
     let digest = digest_of_images(alloc, files, output)?;
     let mut text = Blob::new(alloc);

@@ -1,5 +1,6 @@
 -- A table of names has each module's place.
-use Rattle.std.proofs.Common.{◌≡◌, ℕ, ◌+◌, Bool, cond, List, [], ◌∷◌, map, Some, None, refl, ap, ◌∙◌}
+use Rattle.std.proofs.Common.{◌≡◌, ℕ, ◌+◌, Bool, cond, List, [], ◌∷◌, map, Some, None, refl, ap}
+use Rattle.std.proofs.Common.{◌∙◌}
 use Rattle.std.specs.Prelude.{nat_lt, not}
 use Rattle.std.proofs.lemmas.List.{length-map}
 use Rattle.std.specs.List.{position, position_or_len}
@@ -19,5 +20,7 @@ module _ {X Y : Type 0} (p : Y → Bool) (f : X → Y) where
       let l = length-map xs f in
       λ i. cond (nat_lt (e i) (l i)) (Some (e i)) None
 
-pub place-named : (table : Table) (ms : List KeyValue) (name : List ℕ) → IsNamed table ms → place_in table name ≡ place_of ms name
-place-named table ms name is = is.places name ∙ position-map (states name) (λ (m : KeyValue). Some m.0) ms
+pub place-named : (table : Table) (ms : List KeyValue) (name : List ℕ) → IsNamed table ms
+    → place_in table name ≡ place_of ms name
+place-named table ms name is =
+    is.places name ∙ position-map (states name) (λ (m : KeyValue). Some m.0) ms

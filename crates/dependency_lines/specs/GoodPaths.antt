@@ -25,4 +25,5 @@ are_good_needs has needs =
 -- Whether a text has a `:`, and before the first one the path of the module of this name.
 abbrev pub begins_line : List ℕ → List ℕ → Bool
 begins_line name line =
-    (list_any (λ b. b == 58) line && is_line_path (own_path line)) && bytes_eq (module_name (own_path line)) name
+    (list_any (λ b. b == 58) line && is_line_path (own_path line))
+    && bytes_eq (module_name (own_path line)) name

@@ -1,6 +1,7 @@
 -- The modules of a folder as modules.dep.bin has them: under the name of each its dependency line,
 -- with its number in the tree as priority. modules.dep(5), depmod(8).
-use Rattle.std.specs.Prelude.{ℕ, ◌&&◌, not, nat_le, Bool, false, List, [], ◌∷◌, map, if◌then◌else◌, slice_get, slice_index_or, Option, option_map}
+use Rattle.std.specs.Prelude.{ℕ, ◌&&◌, not, nat_le, Bool, false, List, [], ◌∷◌, map, if◌then◌else◌}
+use Rattle.std.specs.Prelude.{slice_get, slice_index_or, Option, option_map}
 use Rattle.std.specs.List.{find, flat_map, list_all, position}
 use Rattle.std.specs.Option.{option_map_or, option_to_list}
 use Rattle.std.specs.FinMap.{entries}
@@ -70,13 +71,15 @@ line_places ms x = places_of ms (needed_names (line_at ms x))
 -- passes a test.
 abbrev pub is_line_of : (List ℕ → Bool) → List ℕ → List ℕ → Bool
 is_line_of has name line =
-    is_dependency_line line && (bytes_eq (module_name (own_path line)) name && list_all has (needed_names line))
+    is_dependency_line line
+    && (bytes_eq (module_name (own_path line)) name && list_all has (needed_names line))
 
 -- Whether a name has a value that is the dependency line of its module, and each module that the
 -- line needs has a value.
 abbrev pub is_well_formed : KeyValues → List ℕ → Bool
 is_well_formed dep name =
-    option_map_or (λ (v : Value). is_line_of (has_value dep) name v.1) (slice_get (values_of dep name) 0) false
+    option_map_or (λ (v : Value). is_line_of (has_value dep) name v.1)
+    (slice_get (values_of dep name) 0) false
 
 -- The first of some modules, by the bytes of their names, whose value isn't such a line.
 abbrev pub bad_among : (List ℕ → Bool) → List KeyValue → Option (List ℕ)

@@ -1,6 +1,7 @@
 -- The places of modules by their numbers.
 -- It belongs to the code: no public meaning rests on it.
-use Rattle.std.specs.Prelude.{◌≡◌, ℕ, ◌<◌, false, List, All, length, slice_index, slice_index_or, Option, Some, None, IfSome, IfNone}
+use Rattle.std.specs.Prelude.{◌≡◌, ℕ, ◌<◌, false, List, All, length, slice_index, slice_index_or}
+use Rattle.std.specs.Prelude.{Option, Some, None, IfSome, IfNone}
 use Rattle.std.specs.List.{list_any}
 use Rattle.std.specs.Str.{bytes_eq}
 use Rattle.name_table.specs.NameTable.{Table}
@@ -16,8 +17,13 @@ number_at lines place other = (slice_index_or lines place other).1.0
 -- number is no place.
 pub record ArePlaces (lines : List KeyValue) (places : List ℕ) (count : ℕ) : Type 0 where
   pub long : length places ≡ length lines
-  pub back : (place : ℕ) (other : KeyValue) → place < count → (number_at lines place other < length lines) × (slice_index places (number_at lines place other) ≡ place)
-  pub there : (number : ℕ) (other : KeyValue) → number < length lines → slice_index places number < length lines → (slice_index places number < count) × (number_at lines (slice_index places number) other ≡ number)
+  pub back : (place : ℕ) (other : KeyValue) → place < count
+      → (number_at lines place other < length lines)
+      × (slice_index places (number_at lines place other) ≡ place)
+  pub there : (number : ℕ) (other : KeyValue) → number < length lines
+      → slice_index places number < length lines
+      → (slice_index places number < count)
+      × (number_at lines (slice_index places number) other ≡ number)
 
 -- The places from 0 on, this many.
 pub record AreFirst (count : ℕ) (places : List ℕ) : Type 0 where
@@ -28,7 +34,8 @@ pub record AreFirst (count : ℕ) (places : List ℕ) : Type 0 where
 abbrev pub IsNumberOf : List KeyValue → List ℕ → Option ℕ → Type 0
 IsNumberOf lines name None = list_any (λ m. bytes_eq m.0 name) lines ≡ false
 IsNumberOf lines name (Some number) =
-    (place : ℕ) × (place < length lines) × (name_at lines place ≡ name) × ((other : KeyValue) → number_at lines place other ≡ number)
+    (place : ℕ) × (place < length lines) × (name_at lines place ≡ name)
+    × ((other : KeyValue) → number_at lines place other ≡ number)
 
 -- Lines, with the place of each module's line. Either a table has the names of the modules, or the
 -- names of the lines rise and the numbers of modules are their places.

@@ -6,4 +6,5 @@ use Rattle.std.specs.List.{list_any, after_first}
 -- What follows the first space of a text, if there is one.
 abbrev pub IsAfterSpace : List ℕ → Option (List ℕ) → Type 0
 IsAfterSpace text None = list_any (λ b. b == 32) text ≡ false
-IsAfterSpace text (Some rest) = (list_any (λ b. b == 32) text ≡ true) × (rest ≡ after_first (λ b. b == 32) text)
+IsAfterSpace text (Some rest) =
+    (list_any (λ b. b == 32) text ≡ true) × (rest ≡ after_first (λ b. b == 32) text)

@@ -1,6 +1,7 @@
 -- Modules as the code keeps them.
 -- It belongs to the code: no public meaning rests on it.
-use Rattle.std.specs.Prelude.{◌≡◌, ℕ, ◌+◌, ◌-◌, ◌<◌, ◌≤◌, true, List, All, length, map, take, drop, Some}
+use Rattle.std.specs.Prelude.{◌≡◌, ℕ, ◌+◌, ◌-◌, ◌<◌, ◌≤◌, true, List, All, length, map, take, drop}
+use Rattle.std.specs.Prelude.{Some}
 use Rattle.std.specs.Cmp.Lexicographic.{slice_cmp}
 use Rattle.std.specs.Ordering.{nat_cmp}
 use Rattle.std.specs.declared.cmp.Ordering.TheVariants.{Less}
@@ -12,7 +13,8 @@ use Rattle.dependency_lines.specs.Modules.{module_at, name_at}
 
 -- A module whose name is in a buffer, as a key with its value.
 abbrev pub line_in : List ℕ → Line → KeyValue
-line_in names line = (take (line.end - line.start) (drop line.start names), (line.number, line.text.now))
+line_in names line =
+    (take (line.end - line.start) (drop line.start names), (line.number, line.text.now))
 
 -- Its name lies in the buffer.
 pub record IsInside (names : List ℕ) (line : Line) : Type 0 where
@@ -30,7 +32,8 @@ at_places modules places = map (module_at modules) places
 -- Each name is below the next, by their bytes.
 abbrev pub NamesRise : List KeyValue → Type 0
 NamesRise modules =
-    (place : ℕ) → place + 1 < length modules → slice_cmp nat_cmp (name_at modules place) (name_at modules (place + 1)) ≡ Less
+    (place : ℕ) → place + 1 < length modules
+    → slice_cmp nat_cmp (name_at modules place) (name_at modules (place + 1)) ≡ Less
 
 -- The names rise, and each line begins with the path of the module of its name.
 pub record AreLines (modules : List KeyValue) : Type 0 where

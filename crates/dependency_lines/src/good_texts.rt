@@ -40,7 +40,8 @@ impl<'a> GoodTexts<'a> {
 
     /// Returns what a slot has, nothing if there is no such slot.
     fn text_at(&self, slot: usize) -> &'a [u8]
-        ensures { (test : List ℕ → Bool) → AreKept test self.now.slots.items → 0 < length result.now → test result.now ≡ true }
+        ensures { (test : List ℕ → Bool) → AreKept test self.now.slots.items → 0 < length result.now
+            → test result.now ≡ true }
     {
         if slot < self.slots.len() {
             self.slots[slot]
@@ -51,14 +52,16 @@ impl<'a> GoodTexts<'a> {
 
     /// Returns whether a slot has this text.
     pub(crate) fn has(&self, slot: usize, text: &[u8]) -> bool
-        ensures { result ≡ true → (test : List ℕ → Bool) → AreKept test self.now.slots.items → test text.now ≡ true }
+        ensures { result ≡ true → (test : List ℕ → Bool) → AreKept test self.now.slots.items
+            → test text.now ≡ true }
     {
         !text.is_empty() && self.text_at(slot) == text
     }
 
     /// Puts a text into a slot, if there is such a slot.
     pub(crate) fn put(&mut self, slot: usize, text: &'a [u8])
-        ensures { (test : List ℕ → Bool) → AreKept test self.old.slots.items → test text.now ≡ true → AreKept test self.new.slots.items }
+        ensures { (test : List ℕ → Bool) → AreKept test self.old.slots.items → test text.now ≡ true
+            → AreKept test self.new.slots.items }
     {
         if slot < self.slots.len() {
             self.slots[slot] = text;

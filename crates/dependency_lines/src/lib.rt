@@ -5,8 +5,8 @@
 //! begins with. The first line that begins otherwise ends the reading, so that the names together
 //! are no longer than the lines, whatever keys a file has.
 //!
-//! [`Modules`] has the modules of such lines by their places in the order of the tree, once each line
-//! is known to be well formed: each module that it names has a line too.
+//! [`Modules`] has the modules of such lines by their places in the order of the tree, once each
+//! line is known to be well formed: each module that it names has a line too.
 //!
 //! It hands out the place of a name, and the name, the path and the needs of the module at a place.
 //! [`well_formed`] tests the line of one name in the index itself.

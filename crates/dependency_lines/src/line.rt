@@ -1,5 +1,6 @@
 // Dependency lines by what they name.
-ghost use Rattle.std.specs.Prelude.{◌≡◌, ◌==◌, ◌&&◌, ◌⊎◌, ℕ, List, Bool, true, All, Some, None, IfOk, IfErr, OnOk, drop, length, option_copied, option_map};
+ghost use Rattle.std.specs.Prelude.{◌≡◌, ◌==◌, ◌&&◌, ◌⊎◌, ℕ, List, Bool, true, All, Some, None};
+ghost use Rattle.std.specs.Prelude.{IfOk, IfErr, OnOk, drop, length, option_copied, option_map};
 ghost use Rattle.std.specs.List.{before_first, list_any};
 ghost use Rattle.std.specs.Str.{bytes_eq};
 ghost use Rattle.km_names.specs.Path.{module_name};
@@ -43,7 +44,8 @@ impl KnownNames for Index {
 /// Returns whether modules.dep.bin has a value of the name, whose first value is the dependency
 /// line of the module of this name. Each module that is needed has a value too. modules.dep(5).
 pub fn well_formed(alloc: Global, name: &Name, indexes: &Indexes) -> Result<bool, AllocError>
-    ensures { IfOk result (λ good. good ≡ is_well_formed (contents indexes.now.dep.nodes) name.now) }
+    ensures { IfOk result
+        (λ good. good ≡ is_well_formed (contents indexes.now.dep.nodes) name.now) }
 {
     match plain::first_text(&indexes.dep, name.as_bytes()) {
         Some(line) => {
@@ -71,7 +73,9 @@ pub(crate) fn check_needs<K: KnownNames>(
 ) -> Result<(), LineFault>
     requires { All (λ m. begins_line m.0 m.1.1 ≡ true) lines.now }
     ensures passed { OnOk result (bad_among (K.has known.now) lines.now ≡ None) }
-    ensures err { IfErr result (λ fault. (fault ≡ LineFault.Memory) ⊎ (option_map LineFault.BadLine (bad_among (K.has known.now) lines.now) ≡ Some fault)) }
+    ensures err { IfErr result
+        (λ fault. (fault ≡ LineFault.Memory)
+        ⊎ (option_map LineFault.BadLine (bad_among (K.has known.now) lines.now) ≡ Some fault)) }
 {
     let mut paths = GoodTexts::new(alloc)?;
     let mut lists = GoodTexts::new(alloc)?;

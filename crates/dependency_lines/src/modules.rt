@@ -1,8 +1,11 @@
 // The modules of modules.dep.bin, in the order of the tree.
-ghost use Rattle.std.specs.Prelude.{◌≡◌, ◌<◌, ◌⊎◌, All, Some, None, length, IfOk, IfErr, OnOk, option_map};
+ghost use Rattle.std.specs.Prelude.{◌≡◌, ◌<◌, ◌⊎◌, All, Some, None, length, IfOk, IfErr, OnOk};
+ghost use Rattle.std.specs.Prelude.{option_map};
 ghost use Rattle.index_format.specs.Map.{KeyValues};
 ghost use Rattle.name_table.specs.NameTable.{place_of as place_of_spec};
-ghost use Rattle.dependency_lines.specs.Modules.{bad_name, by_number, first_values, line_at, line_places, modules_of, name_at, path_at, place_of, places_of};
+ghost use Rattle.dependency_lines.specs.Modules.{bad_name, by_number, first_values, line_at};
+ghost use Rattle.dependency_lines.specs.Modules.{line_places, modules_of, name_at, path_at};
+ghost use Rattle.dependency_lines.specs.Modules.{place_of, places_of};
 ghost use Rattle.dependency_lines.specs.Tables.{NamesRise, at_places, IsNamed};
 
 use crate::fault::LineFault;
@@ -50,9 +53,15 @@ impl<'a> Modules<'a> {
     /// `BadLine` exactly if a value isn't the dependency line of its module over names that the
     /// index has. Or `Memory`.
     pub fn new(alloc: Global, lines: &'a DependencyLines<'_>) -> Result<Modules<'a>, LineFault>
-        ensures modules { IfOk result (λ modules. (dep : KeyValues) → lines.now ≡ first_values dep → modules ≡ modules_of dep) }
-        ensures passed { OnOk result ((dep : KeyValues) → lines.now ≡ first_values dep → bad_name dep ≡ None) }
-        ensures err { IfErr result (λ fault. (fault ≡ LineFault.Memory) ⊎ ((dep : KeyValues) → lines.now ≡ first_values dep → option_map LineFault.BadLine (bad_name dep) ≡ Some fault)) }
+        ensures modules { IfOk result
+            (λ modules. (dep : KeyValues) → lines.now ≡ first_values dep
+            → modules ≡ modules_of dep) }
+        ensures passed { OnOk result
+            ((dep : KeyValues) → lines.now ≡ first_values dep → bad_name dep ≡ None) }
+        ensures err { IfErr result
+            (λ fault. (fault ≡ LineFault.Memory)
+            ⊎ ((dep : KeyValues) → lines.now ≡ first_values dep
+            → option_map LineFault.BadLine (bad_name dep) ≡ Some fault)) }
     {
         let kept = lines.lines();
         let modules = numbered(alloc, kept)?;

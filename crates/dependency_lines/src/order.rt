@@ -29,14 +29,16 @@ fn first_places(alloc: Global, count: usize) -> Result<Vec<usize>, AllocError>
     Ok(places)
 }
 
-/// Finds where the module of each number is. Returns `None` unless the modules have the numbers from
-/// 0 on, each once, as depmod gives them.
+/// Finds where the module of each number is. Returns `None` unless the modules have the numbers
+/// from 0 on, each once, as depmod gives them.
 pub(crate) fn places_by_number(
     alloc: Global,
     lines: &Lines<'_>,
 ) -> Result<Option<Vec<usize>>, AllocError>
-    ensures are { IfOk result (λ found. IfSome found (λ places. ArePlaces lines.now places.items (length lines.now))) }
-    ensures inside { IfOk result (λ found. IfSome found (λ places. All (λ place. place < length lines.now) places.items)) }
+    ensures are { IfOk result
+        (λ found. IfSome found (λ places. ArePlaces lines.now places.items (length lines.now))) }
+    ensures inside { IfOk result
+        (λ found. IfSome found (λ places. All (λ place. place < length lines.now) places.items)) }
 {
     let Some(places) = places_or_count(alloc, lines)? else {
         return Ok(None);
@@ -50,7 +52,8 @@ pub(crate) fn places_by_number(
 
 /// Finds the same. A number that no module has gets the count of modules.
 fn places_or_count(alloc: Global, lines: &Lines<'_>) -> Result<Option<Vec<usize>>, AllocError>
-    ensures { IfOk result (λ found. IfSome found (λ places. ArePlaces lines.now places.items (length lines.now))) }
+    ensures { IfOk result
+        (λ found. IfSome found (λ places. ArePlaces lines.now places.items (length lines.now))) }
 {
     let count = lines.len();
     let mut places = vec![in alloc; count; count]?;

@@ -16,7 +16,8 @@ pub(crate) fn push_place(
     modules: &Modules<'_>,
     name: &[u8],
 ) -> Result<(), AllocError>
-    ensures { OnOk result (places.new.items ≡ places.old.items ++ option_to_list (place_of modules.now name.now)) }
+    ensures { OnOk result
+        (places.new.items ≡ places.old.items ++ option_to_list (place_of modules.now name.now)) }
 {
     if let Some(place) = modules.place(name) {
         places.push(place)?;
@@ -31,7 +32,8 @@ pub(crate) fn push_needed(
     modules: &Modules<'_>,
     line: &[u8],
 ) -> Result<(), AllocError>
-    ensures { OnOk result (places.new.items ≡ places.old.items ++ places_of modules.now (needed_names line.now)) }
+    ensures { OnOk result
+        (places.new.items ≡ places.old.items ++ places_of modules.now (needed_names line.now)) }
 {
     let mut buffer = Vec::new(alloc);
     let mut rest = split_at_byte(line, b':').1;
@@ -51,7 +53,9 @@ fn push_at(
     modules: &Modules<'_>,
     path: &[u8],
 ) -> Result<(), AllocError>
-    ensures { OnOk result (places.new.items ≡ places.old.items ++ option_to_list (place_of modules.now (module_name path.now))) }
+    ensures { OnOk result
+        (places.new.items
+        ≡ places.old.items ++ option_to_list (place_of modules.now (module_name path.now))) }
 {
     let text = stem(path);
     if is_plain(text) {

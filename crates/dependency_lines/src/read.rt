@@ -1,5 +1,6 @@
 // The dependency lines of an index, as its walk gives them.
-ghost use Rattle.std.specs.Prelude.{◌≡◌, ◌++◌, ◌∷◌, ◌⊎◌, ℕ, List, All, Some, None, true, false, IfOk, IfErr, option_map};
+ghost use Rattle.std.specs.Prelude.{◌≡◌, ◌++◌, ◌∷◌, ◌⊎◌, ℕ, List, All, Some, None, true, false};
+ghost use Rattle.std.specs.Prelude.{IfOk, IfErr, option_map};
 ghost use Rattle.index_format.specs.Listing.{KeyValue};
 ghost use Rattle.index_read.specs.Contents.{contents};
 ghost use Rattle.name_lookup.specs.Maps.{has_value};
@@ -15,8 +16,8 @@ use km_names::Name;
 use std::alloc::{AllocError, Global};
 use std::marker::Model;
 
-/// The dependency lines of an index, each under the name of the module whose path it begins with, by
-/// the bytes of the names. Contracts see each name with its number and line.
+/// The dependency lines of an index, each under the name of the module whose path it begins with,
+/// by the bytes of the names. Contracts see each name with its number and line.
 ///
 /// The lines stay in the index, and the names are copied. Together they are no longer than the
 /// lines: each name is part of its line, and no two names have the same line.
@@ -47,7 +48,10 @@ impl<'a> DependencyLines<'a> {
     /// that the index has. Or `Memory`.
     pub fn read(alloc: Global, index: &'a Index) -> Result<DependencyLines<'a>, LineFault>
         ensures lines { IfOk result (λ lines. lines ≡ first_values (contents index.now.nodes)) }
-        ensures err { IfErr result (λ fault. (fault ≡ LineFault.Memory) ⊎ (option_map LineFault.BadLine (bad_name (contents index.now.nodes)) ≡ Some fault)) }
+        ensures err { IfErr result
+            (λ fault. (fault ≡ LineFault.Memory)
+            ⊎ (option_map LineFault.BadLine (bad_name (contents index.now.nodes))
+            ≡ Some fault)) }
     {
         let mut lines = Lines::new(alloc);
         let mut walk = FirstWalk::start(alloc, index)?;
@@ -73,7 +77,13 @@ impl<'a> DependencyLines<'a> {
 /// doesn't.
 fn bad_line(alloc: Global, index: &Index, lines: &Lines<'_>, name: &[u8]) -> LineFault
     requires { All (λ m. begins_line m.0 m.1.1 ≡ true) lines.now }
-    ensures { (number : ℕ) (text : List ℕ) (rest : List KeyValue) → begins_line name.now text ≡ false → (result ≡ LineFault.Memory) ⊎ (option_map LineFault.BadLine (bad_among (has_value (contents index.now.nodes)) (lines.now ++ (name.now, (number, text)) ∷ rest)) ≡ Some result) }
+    ensures { (number : ℕ) (text : List ℕ) (rest : List KeyValue)
+        → begins_line name.now text ≡ false
+        → (result ≡ LineFault.Memory)
+        ⊎ (option_map LineFault.BadLine
+        (bad_among (has_value (contents index.now.nodes))
+        (lines.now ++ (name.now, (number, text)) ∷ rest))
+        ≡ Some result) }
 {
     if let Err(fault) = check_needs(alloc, index, lines) {
         return fault;

@@ -1,5 +1,7 @@
 -- Texts in the making: how pieces add up, and what was measured or kept.
-use Rattle.std.proofs.Common.{◌≡◌, refl, sym, ap, ◌∙◌, ℕ, ◌+◌, ◌<◌, ◌≤◌, min, List, [], ◌∷◌, ◌++◌, length, take, get_or, flat_map, Option, Some, None, option_map, cond, arith, append_assoc, length-append, ◌⊎◌, inl, inr}
+use Rattle.std.proofs.Common.{◌≡◌, refl, sym, ap, ◌∙◌, ℕ, ◌+◌, ◌<◌, ◌≤◌, min, List, [], ◌∷◌, ◌++◌}
+use Rattle.std.proofs.Common.{length, take, get_or, flat_map, Option, Some, None, option_map, cond}
+use Rattle.std.proofs.Common.{arith, append_assoc, length-append, ◌⊎◌, inl, inr}
 use Rattle.std.proofs.lemmas.List.{take_more, take_all, append-nil}
 use Rattle.std.proofs.lemmas.Grind.{flat_map-append}
 use Rattle.std.proofs.lemmas.Option.{get_or_from_slice_get, slice_get_within}
@@ -14,7 +16,10 @@ use Rattle.depmod_core.specs.Files.{file_name, size_fault}
 use Rattle.depmod_core.specs.Text.{measured, kept, with_piece}
 
 -- one piece, whatever it is
-pub piece-is : (t : Text) (piece : List ℕ) (n : ℕ) (bytes : Option (List ℕ)) → t.length ≤ 18446744073709551615 → n ≡ min (t.length + length piece) 18446744073709551615 → bytes ≡ option_map (λ before. before ++ piece) t.kept → record { length = n; kept = bytes } ≡ with_piece t piece
+pub piece-is : (t : Text) (piece : List ℕ) (n : ℕ) (bytes : Option (List ℕ))
+    → t.length ≤ 18446744073709551615 → n ≡ min (t.length + length piece) 18446744073709551615
+    → bytes ≡ option_map (λ before. before ++ piece) t.kept
+    → record { length = n; kept = bytes } ≡ with_piece t piece
 unfolding with_piece
 piece-is t [] n bytes fits is keeps =
     let same : n ≡ t.length = omega arith in
@@ -26,20 +31,28 @@ piece-is t [] n bytes fits is keeps =
 piece-is t (b ∷ more) n bytes fits is keeps = λ i. record { length = is i; kept = keeps i }
 
 -- one after the other
-kept-append : (a b : List ℕ) (o : Option (List ℕ)) → option_map (λ before. before ++ b) (option_map (λ before. before ++ a) o) ≡ option_map (λ before. before ++ (a ++ b)) o
+kept-append : (a b : List ℕ) (o : Option (List ℕ))
+    → option_map (λ before. before ++ b) (option_map (λ before. before ++ a) o)
+    ≡ option_map (λ before. before ++ (a ++ b)) o
 kept-append a b None = refl
 kept-append a b (Some before) = ap Some (append_assoc before a b)
 
-pub with_piece-append : (t : Text) (a b : List ℕ) → with_piece (with_piece t a) b ≡ with_piece t (a ++ b)
+pub with_piece-append : (t : Text) (a b : List ℕ)
+    → with_piece (with_piece t a) b ≡ with_piece t (a ++ b)
 unfolding with_piece
 with_piece-append t [] b = refl
 with_piece-append t (x ∷ a) [] = ap (with_piece t) (sym (append-nil (x ∷ a)))
 with_piece-append t (x ∷ a) (y ∷ b) =
-    let long : min (min (t.length + length (x ∷ a)) 18446744073709551615 + length (y ∷ b)) 18446744073709551615 ≡ min (t.length + length (x ∷ a ++ y ∷ b)) 18446744073709551615 = omega (arith, length-append (x ∷ a) (y ∷ b)) in
+    let long : min (min (t.length + length (x ∷ a)) 18446744073709551615 + length (y ∷ b))
+    18446744073709551615
+    ≡ min (t.length + length (x ∷ a ++ y ∷ b)) 18446744073709551615
+    = omega (arith, length-append (x ∷ a) (y ∷ b)) in
     λ i. record { length = long i; kept = kept-append (x ∷ a) (y ∷ b) t.kept i }
 
 -- the step of a loop that puts a piece for each item
-pub put-at : {X : Type 0} (f : X → List ℕ) (t s next : Text) (xs : List X) (i : ℕ) (d : X) → i < length xs → s ≡ with_piece t (flat_map f (take i xs)) → next ≡ with_piece s (f (get_or xs i d)) → next ≡ with_piece t (flat_map f (take (i + 1) xs))
+pub put-at : {X : Type 0} (f : X → List ℕ) (t s next : Text) (xs : List X) (i : ℕ) (d : X)
+    → i < length xs → s ≡ with_piece t (flat_map f (take i xs))
+    → next ≡ with_piece s (f (get_or xs i d)) → next ≡ with_piece t (flat_map f (take (i + 1) xs))
 put-at f t s next xs i d inside before after =
     let x = get_or xs i d in
     after
@@ -50,16 +63,22 @@ put-at f t s next xs i d inside before after =
     ∙ sym (flat_map-append f (take i xs) (x ∷ []))
     ∙ ap (flat_map f) (sym (take_more xs i d inside)))
 
-pub put-next : {X : Type 0} (f : X → List ℕ) (t s next : Text) (xs : List X) (i : ℕ) (x : X) → i < length xs → x ≡ get_or xs i x → s ≡ with_piece t (flat_map f (take i xs)) → next ≡ with_piece s (f x) → next ≡ with_piece t (flat_map f (take (i + 1) xs))
+pub put-next : {X : Type 0} (f : X → List ℕ) (t s next : Text) (xs : List X) (i : ℕ) (x : X)
+    → i < length xs → x ≡ get_or xs i x → s ≡ with_piece t (flat_map f (take i xs))
+    → next ≡ with_piece s (f x) → next ≡ with_piece t (flat_map f (take (i + 1) xs))
 put-next f t s next xs i x inside is before after =
     put-at f t s next xs i x inside before (after ∙ ap (λ y. with_piece s (f y)) is)
 
-pub put-found : {X : Type 0} (f : X → List ℕ) (t s next : Text) (xs : List X) (i : ℕ) (x : X) → slice_get xs i ≡ Some x → s ≡ with_piece t (flat_map f (take i xs)) → next ≡ with_piece s (f x) → next ≡ with_piece t (flat_map f (take (i + 1) xs))
+pub put-found : {X : Type 0} (f : X → List ℕ) (t s next : Text) (xs : List X) (i : ℕ) (x : X)
+    → slice_get xs i ≡ Some x → s ≡ with_piece t (flat_map f (take i xs))
+    → next ≡ with_piece s (f x) → next ≡ with_piece t (flat_map f (take (i + 1) xs))
 put-found f t s next xs i x found before after =
-    put-next f t s next xs i x (slice_get_within xs i x found) (sym (get_or_from_slice_get xs i x x found)) before after
+    put-next f t s next xs i x (slice_get_within xs i x found)
+    (sym (get_or_from_slice_get xs i x x found)) before after
 
 -- the end of such a loop
-pub put-whole : {X : Type 0} (f : X → List ℕ) (t s : Text) (xs : List X) (i : ℕ) → length xs ≤ i → s ≡ with_piece t (flat_map f (take i xs)) → s ≡ with_piece t (flat_map f xs)
+pub put-whole : {X : Type 0} (f : X → List ℕ) (t s : Text) (xs : List X) (i : ℕ) → length xs ≤ i
+    → s ≡ with_piece t (flat_map f (take i xs)) → s ≡ with_piece t (flat_map f xs)
 put-whole f t s xs i past is = is ∙ ap (λ ys. with_piece t (flat_map f ys)) (take_all i xs past)
 
 -- nothing is a piece that changes nothing
@@ -68,7 +87,8 @@ unfolding with_piece
 with-nothing t = refl
 
 -- what was measured is the length
-pub measured-length : (t : Text) (bytes : List ℕ) → t ≡ with_piece measured bytes → t.length ≡ min (length bytes) 18446744073709551615
+pub measured-length : (t : Text) (bytes : List ℕ) → t ≡ with_piece measured bytes
+    → t.length ≡ min (length bytes) 18446744073709551615
 unfolding with_piece
 measured-length t [] is = ap (λ u. u.length) is
 measured-length t (b ∷ bytes) is = ap (λ u. u.length) is ∙ omega arith
@@ -80,16 +100,27 @@ kept-bytes t [] is = ap (λ u. u.kept) is
 kept-bytes t (b ∷ bytes) is = ap (λ u. u.kept) is
 
 -- the fault of a file whose text is as long
-pub too-long : (which : OutputFile) (bytes : List ℕ) (n : ℕ) → n ≡ min (length bytes) 18446744073709551615 → file_limit < n → size_fault which bytes ≡ Some (OutputTooLarge (file_name which) n)
+pub too-long : (which : OutputFile) (bytes : List ℕ) (n : ℕ)
+    → n ≡ min (length bytes) 18446744073709551615 → file_limit < n
+    → size_fault which bytes ≡ Some (OutputTooLarge (file_name which) n)
 too-long which bytes n is past =
-    ap (λ b. cond b (Some (OutputTooLarge (file_name which) (min (length bytes) 18446744073709551615))) None) (lt-ltb file_limit (length bytes) (omega arith))
+    ap (λ b. cond b
+    (Some (OutputTooLarge (file_name which) (min (length bytes) 18446744073709551615)))
+    None) (lt-ltb file_limit (length bytes) (omega arith))
     ∙ ap (λ k. Some (OutputTooLarge (file_name which) k)) (sym is)
 
 -- a fault that names a file as long, or is out of memory
-pub named-too-long : (which : OutputFile) (bytes : List ℕ) (n : ℕ) (fault : OutputFault) → n ≡ min (length bytes) 18446744073709551615 → file_limit < n → (fault ≡ Memory) ⊎ (fault ≡ OutputTooLarge (file_name which) n) → (fault ≡ Memory) ⊎ (size_fault which bytes ≡ Some fault)
+pub named-too-long : (which : OutputFile) (bytes : List ℕ) (n : ℕ) (fault : OutputFault)
+    → n ≡ min (length bytes) 18446744073709551615 → file_limit < n
+    → (fault ≡ Memory) ⊎ (fault ≡ OutputTooLarge (file_name which) n)
+    → (fault ≡ Memory) ⊎ (size_fault which bytes ≡ Some fault)
 named-too-long which bytes n fault is past (inl memory) = inl memory
-named-too-long which bytes n fault is past (inr named) = inr (too-long which bytes n is past ∙ ap Some (sym named))
+named-too-long which bytes n fault is past (inr named) =
+    inr (too-long which bytes n is past ∙ ap Some (sym named))
 
-pub not-too-long : (which : OutputFile) (bytes : List ℕ) (n : ℕ) → n ≡ min (length bytes) 18446744073709551615 → n ≤ file_limit → size_fault which bytes ≡ None
+pub not-too-long : (which : OutputFile) (bytes : List ℕ) (n : ℕ)
+    → n ≡ min (length bytes) 18446744073709551615 → n ≤ file_limit → size_fault which bytes ≡ None
 not-too-long which bytes n is within =
-    ap (λ b. cond b (Some (OutputTooLarge (file_name which) (min (length bytes) 18446744073709551615))) None) (le-ltb file_limit (length bytes) (omega arith))
+    ap (λ b. cond b
+    (Some (OutputTooLarge (file_name which) (min (length bytes) 18446744073709551615)))
+    None) (le-ltb file_limit (length bytes) (omega arith))

@@ -10,7 +10,8 @@ use Rattle.depmod_core.specs.Kinds.{statements}
 
 -- The statements of one kind of each module of a tree.
 abbrev pub AreStated : StatedKind → List Facts → List (Vec (List ℕ × Option (List ℕ))) → Type 0
-AreStated kind tree all = map (λ (v : Vec (List ℕ × Option (List ℕ))). v.items) all ≡ map (statements kind) tree
+AreStated kind tree all =
+    map (λ (v : Vec (List ℕ × Option (List ℕ))). v.items) all ≡ map (statements kind) tree
 
 -- The statements of each kind of each module of a tree.
 pub record AreAllStated (tree : List Facts) (all : AllStated) : Type 0 where

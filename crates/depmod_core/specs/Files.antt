@@ -1,6 +1,7 @@
 -- The nine files of depmod, or the first of them that would be too large. depmod(8),
 -- modules.dep(5).
-use Rattle.std.specs.Prelude.{◌≡◌, ℕ, nat_lt, min, List, [], ◌∷◌, length, codes, Option, Some, None, Result, Ok, if◌then◌else◌}
+use Rattle.std.specs.Prelude.{◌≡◌, ℕ, nat_lt, min, List, [], ◌∷◌, length, codes, Option, Some, None}
+use Rattle.std.specs.Prelude.{Result, Ok, if◌then◌else◌}
 use Rattle.km_names.specs.First.{first}
 use Rattle.km_names.specs.Limit.{file_limit}
 use Rattle.km_names.specs.Statements.{unless_fault}
@@ -16,7 +17,9 @@ use Rattle.provider_rel.specs.Relation.{dependencies}
 use Rattle.provider_rel.specs.Seen.{IsRelation}
 use Rattle.provider_rel.specs.declared.relation.Relation.{Relation}
 use Rattle.depmod_core.specs.declared.file.OutputFile.{OutputFile}
-use Rattle.depmod_core.specs.declared.file.OutputFile.TheVariants.{Dep, DepBin, Alias, AliasBin, Softdep, Symbols, SymbolsBin, BuiltinBin, Unmet}
+use Rattle.depmod_core.specs.declared.file.OutputFile.TheVariants.{Dep, DepBin, Alias, AliasBin}
+use Rattle.depmod_core.specs.declared.file.OutputFile.TheVariants.{Softdep, Symbols, SymbolsBin}
+use Rattle.depmod_core.specs.declared.file.OutputFile.TheVariants.{BuiltinBin, Unmet}
 use Rattle.depmod_core.specs.declared.fault.OutputFault.{OutputFault}
 use Rattle.depmod_core.specs.declared.fault.OutputFault.TheVariants.{OutputTooLarge}
 use Rattle.depmod_core.specs.declared.files.OutputFiles.{OutputFiles}
@@ -72,7 +75,9 @@ content fs Unmet = fs.unmet
 -- greatest of 64.
 abbrev pub size_fault : OutputFile → List ℕ → Option OutputFault
 size_fault which bytes =
-    if nat_lt file_limit (length bytes) then Some (OutputTooLarge (file_name which) (min (length bytes) 18446744073709551615)) else None
+    if nat_lt file_limit (length bytes)
+    then Some (OutputTooLarge (file_name which) (min (length bytes) 18446744073709551615))
+    else None
 
 -- The fault of the first of the files, in their order, that is too large.
 unfoldable pub output_fault : OutputFiles → Option OutputFault
@@ -91,7 +96,8 @@ output_fault fs =
 
 -- The files of a tree over a kernel, unless one of them is too large.
 unfoldable pub outputs_of : List Facts → Kernel → List ℕ → Result OutputFiles OutputFault
-outputs_of tree kernel builtin = let made = files tree kernel builtin in unless_fault (output_fault made) made
+outputs_of tree kernel builtin =
+    let made = files tree kernel builtin in unless_fault (output_fault made) made
 
 -- The relation is the tree's over some kernel.
 abbrev pub IsRelationOf : List Facts → Relation → Type 0
@@ -100,7 +106,8 @@ IsRelationOf tree relation = (kernel : Kernel) × IsRelation (modules_of tree) k
 -- The files represent what they are made of. The indexes represent their maps: no reader refuses
 -- them, and each key reaches the values that it has in the map, and no others. What a reader takes
 -- from modules.unmet, at whatever path, is the list of obstacles to loading modules.
-pub record StandFor (tree : List Facts) (kernel : Kernel) (builtin : List ℕ) (made : OutputFiles) : Type 0 where
+pub record StandFor (tree : List Facts) (kernel : Kernel) (builtin : List ℕ) (made : OutputFiles) :
+    Type 0 where
   pub dep : Holds made.dep_bin (dep_map tree (dependencies (modules_of tree) kernel))
   pub alias : Holds made.alias_bin (alias_map tree)
   pub symbols : Holds made.symbols_bin (symbols_map tree)

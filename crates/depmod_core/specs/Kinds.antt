@@ -1,6 +1,7 @@
 -- The statements of modules, by their kind, and the maps of indexes, by their files.
 -- It belongs to the code: no public meaning rests on it.
-use Rattle.std.specs.Prelude.{⊤, ℕ, List, ◌++◌, map, flat_map, codes, Option, Some, None, option_map}
+use Rattle.std.specs.Prelude.{⊤, ℕ, List, ◌++◌, map, flat_map, codes, Option, Some, None}
+use Rattle.std.specs.Prelude.{option_map}
 use Rattle.std.specs.List.{filter_map, enumerate_from}
 use Rattle.km_names.specs.AliasForm.{normal_alias}
 use Rattle.index_format.specs.Map.{KeyValues}
@@ -11,9 +12,11 @@ use Rattle.depmod_core.specs.declared.stated.StatedKind.{StatedKind}
 use Rattle.depmod_core.specs.declared.stated.StatedKind.TheVariants.{Alias, Softdep, Symbol}
 use Rattle.depmod_core.specs.Maps.{map_of}
 use Rattle.depmod_core.specs.declared.file.OutputFile.{OutputFile}
-use Rattle.depmod_core.specs.declared.file.OutputFile.TheVariants.{DepBin, AliasBin, SymbolsBin, BuiltinBin}
+use Rattle.depmod_core.specs.declared.file.OutputFile.TheVariants.{DepBin, AliasBin, SymbolsBin}
+use Rattle.depmod_core.specs.declared.file.OutputFile.TheVariants.{BuiltinBin}
 use Rattle.depmod_core.specs.Dependencies.{dep_map}
-use Rattle.depmod_core.specs.Stated.{aliases_of, softdeps_of, symbols_of, alias_text, softdep_text, symbols_text, alias_map, symbols_map}
+use Rattle.depmod_core.specs.Stated.{aliases_of, softdeps_of, symbols_of, alias_text, softdep_text}
+use Rattle.depmod_core.specs.Stated.{symbols_text, alias_map, symbols_map}
 use Rattle.depmod_core.specs.BuiltIn.{built_in_map}
 
 -- The heading of the file of a kind.

@@ -15,7 +15,8 @@ use std::alloc::{AllocError, Global};
 
 /// Returns the names of the listed modules whose names are words of visible characters.
 fn listed_names(alloc: Global, builtin: &[u8]) -> Result<Names, AllocError>
-    ensures { IfOk result (λ names. names ≡ filter is_graphic (map module_name (lines_of builtin.now))) }
+    ensures { IfOk result
+        (λ names. names ≡ filter is_graphic (map module_name (lines_of builtin.now))) }
 {
     let mut names = Names::new(alloc);
     let mut rest = builtin;

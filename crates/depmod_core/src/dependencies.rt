@@ -31,7 +31,8 @@ fn put_line(
     facts: &Facts,
     order: &Order,
 ) -> Result<(), AllocError>
-    ensures { OnOk result (text.new ≡ with_piece text.old (line_of tree.now (facts.now, places_of order.now))) }
+    ensures { OnOk result
+        (text.new ≡ with_piece text.old (line_of tree.now (facts.now, places_of order.now))) }
 {
     text.put_all(&[facts.path.as_bytes(), b":"])?;
     let places = order.as_slice();
@@ -45,7 +46,8 @@ fn put_line(
 fn put_lines(text: &mut Text, relation: &Relation, tree: &TreeFacts) -> Result<(), AllocError>
     requires few { length tree.now ≤ 10000 }
     requires long { length (closures_by relation.now) ≡ length tree.now }
-    ensures { OnOk result (text.new ≡ with_piece text.old (dep_text tree.now (closures_by relation.now))) }
+    ensures { OnOk result
+        (text.new ≡ with_piece text.old (dep_text tree.now (closures_by relation.now))) }
 {
     let modules = tree.as_slice();
     for place in 0..modules.len() {
@@ -66,7 +68,8 @@ pub(crate) fn dep_text(
     requires tree { IsTree tree.now }
     requires long { length (closures_by relation.now) ≡ length tree.now }
     ensures ok { IfOk result (λ bytes. bytes ≡ dep_text tree.now (closures_by relation.now)) }
-    ensures passed { OnOk result (size_fault OutputFile.Dep (dep_text tree.now (closures_by relation.now)) ≡ None) }
+    ensures passed { OnOk result
+        (size_fault OutputFile.Dep (dep_text tree.now (closures_by relation.now)) ≡ None) }
     ensures err { IfErr result (λ fault. (fault ≡ OutputFault.Memory)
         ⊎ (size_fault OutputFile.Dep (dep_text tree.now (closures_by relation.now)) ≡ Some fault)) }
 {

@@ -19,7 +19,8 @@ impl OutputFault {
     /// Names a file that would have this many bytes, or reports that there was no memory for its
     /// name.
     pub(crate) fn too_large(alloc: Global, file: OutputFile, length: u64) -> OutputFault
-        ensures { (result ≡ OutputFault.Memory) ⊎ (result ≡ OutputFault.OutputTooLarge (file_name file) length) }
+        ensures { (result ≡ OutputFault.Memory)
+            ⊎ (result ≡ OutputFault.OutputTooLarge (file_name file) length) }
     {
         match Name::from_slice(alloc, file.name()) {
             Ok(file) => OutputFault::OutputTooLarge { file, length },

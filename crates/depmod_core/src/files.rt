@@ -1,10 +1,12 @@
-ghost use Rattle.std.specs.Prelude.{◌≡◌, ◌⊎◌, [], ◌∷◌, Ok, Err, Some, None, length, IfOk, IfErr, OnOk};
+ghost use Rattle.std.specs.Prelude.{◌≡◌, ◌⊎◌, [], ◌∷◌, Ok, Err, Some, None, length, IfOk, IfErr};
+ghost use Rattle.std.specs.Prelude.{OnOk};
 ghost use Rattle.km_names.specs.First.{first};
 ghost use Rattle.symbol_binding.specs.Symbols.{Kernel};
 ghost use Rattle.provider_rel.specs.Faces.{modules_of};
 ghost use Rattle.provider_rel.specs.Seen.{IsRelation, closures_by, obstacles_by};
 ghost use Rattle.provider_rel.specs.Tree.{IsTree};
-ghost use Rattle.depmod_core.specs.Files.{content, files_by, size_fault, output_fault, outputs_of, IsRelationOf, StandFor};
+ghost use Rattle.depmod_core.specs.Files.{content, files_by, size_fault, output_fault, outputs_of};
+ghost use Rattle.depmod_core.specs.Files.{IsRelationOf, StandFor};
 ghost use Rattle.depmod_core.specs.declared.file.OutputFile.{OutputFile};
 ghost use Rattle.depmod_core.specs.AllStated.{AreAllStated};
 ghost use Rattle.depmod_core.specs.Kinds.{Stands};
@@ -75,11 +77,22 @@ fn make(
     requires tree { IsTree tree.now }
     requires all { AreAllStated tree.now all.now }
     requires long { length (closures_by relation.now) ≡ length tree.now }
-    ensures ok { IfOk result (λ bytes. bytes ≡ content (files_by tree.now (closures_by relation.now) (obstacles_by relation.now) builtin.now) file) }
-    ensures passed { OnOk result (size_fault file (content (files_by tree.now (closures_by relation.now) (obstacles_by relation.now) builtin.now) file) ≡ None) }
+    ensures ok { IfOk result
+        (λ bytes. bytes
+        ≡ content (files_by tree.now (closures_by relation.now) (obstacles_by relation.now)
+        builtin.now) file) }
+    ensures passed { OnOk result
+        (size_fault file (content
+        (files_by tree.now (closures_by relation.now) (obstacles_by relation.now)
+        builtin.now) file)
+        ≡ None) }
     ensures err { IfErr result (λ fault. (fault ≡ OutputFault.Memory)
-        ⊎ (size_fault file (content (files_by tree.now (closures_by relation.now) (obstacles_by relation.now) builtin.now) file) ≡ Some fault)) }
-    ensures stands { IfOk result (λ bytes. Stands tree.now (closures_by relation.now) builtin.now file bytes) }
+        ⊎ (size_fault file
+        (content (files_by tree.now (closures_by relation.now) (obstacles_by relation.now)
+        builtin.now) file)
+        ≡ Some fault)) }
+    ensures stands { IfOk result
+        (λ bytes. Stands tree.now (closures_by relation.now) builtin.now file bytes) }
 {
     match file {
         OutputFile::Dep => dep_text(alloc, relation, tree),
@@ -122,14 +135,32 @@ fn make_pair(
     requires tree { IsTree tree.now }
     requires all { AreAllStated tree.now all.now }
     requires long { length (closures_by relation.now) ≡ length tree.now }
-    ensures text { IfOk result (λ pair. pair.text ≡ content (files_by tree.now (closures_by relation.now) (obstacles_by relation.now) builtin.now) first_file) }
-    ensures index { IfOk result (λ pair. pair.index ≡ content (files_by tree.now (closures_by relation.now) (obstacles_by relation.now) builtin.now) second_file) }
+    ensures text { IfOk result
+        (λ pair. pair.text
+        ≡ content (files_by tree.now (closures_by relation.now) (obstacles_by relation.now)
+        builtin.now) first_file) }
+    ensures index { IfOk result
+        (λ pair. pair.index
+        ≡ content (files_by tree.now (closures_by relation.now) (obstacles_by relation.now)
+        builtin.now) second_file) }
     ensures passed { OnOk result (first (size_fault first_file (content (files_by tree.now (closures_by relation.now) (obstacles_by relation.now) builtin.now) first_file)
-        ∷ size_fault second_file (content (files_by tree.now (closures_by relation.now) (obstacles_by relation.now) builtin.now) second_file) ∷ []) ≡ None) }
+        ∷ size_fault second_file
+        (content (files_by tree.now (closures_by relation.now) (obstacles_by relation.now)
+        builtin.now) second_file)
+        ∷ [])
+        ≡ None) }
     ensures err { IfErr result (λ fault. (fault ≡ OutputFault.Memory)
-        ⊎ (first (size_fault first_file (content (files_by tree.now (closures_by relation.now) (obstacles_by relation.now) builtin.now) first_file)
-        ∷ size_fault second_file (content (files_by tree.now (closures_by relation.now) (obstacles_by relation.now) builtin.now) second_file) ∷ []) ≡ Some fault)) }
-    ensures stands { IfOk result (λ pair. Stands tree.now (closures_by relation.now) builtin.now second_file pair.index) }
+        ⊎ (first (size_fault first_file
+        (content
+        (files_by tree.now (closures_by relation.now) (obstacles_by relation.now) builtin.now)
+        first_file)
+        ∷ size_fault second_file
+        (content (files_by tree.now (closures_by relation.now) (obstacles_by relation.now)
+        builtin.now) second_file)
+        ∷ [])
+        ≡ Some fault)) }
+    ensures stands { IfOk result
+        (λ pair. Stands tree.now (closures_by relation.now) builtin.now second_file pair.index) }
 {
     let text = make(alloc, relation, tree, all, builtin, first_file)?;
     let index = make(alloc, relation, tree, all, builtin, second_file)?;
@@ -147,11 +178,21 @@ fn make_all(
     requires tree { IsTree tree.now }
     requires all { AreAllStated tree.now all.now }
     requires long { length (closures_by relation.now) ≡ length tree.now }
-    ensures ok { IfOk result (λ made. made ≡ (files_by tree.now (closures_by relation.now) (obstacles_by relation.now) builtin.now)) }
-    ensures passed { OnOk result (output_fault (files_by tree.now (closures_by relation.now) (obstacles_by relation.now) builtin.now) ≡ None) }
+    ensures ok { IfOk result
+        (λ made. made
+        ≡ (files_by tree.now (closures_by relation.now) (obstacles_by relation.now)
+        builtin.now)) }
+    ensures passed { OnOk result
+        (output_fault (files_by tree.now (closures_by relation.now) (obstacles_by relation.now)
+        builtin.now)
+        ≡ None) }
     ensures err { IfErr result (λ fault. (fault ≡ OutputFault.Memory)
-        ⊎ (output_fault (files_by tree.now (closures_by relation.now) (obstacles_by relation.now) builtin.now) ≡ Some fault)) }
-    ensures stands { IfOk result (λ made. (file : OutputFile) → Stands tree.now (closures_by relation.now) builtin.now file (content made file)) }
+        ⊎ (output_fault
+        (files_by tree.now (closures_by relation.now) (obstacles_by relation.now) builtin.now)
+        ≡ Some fault)) }
+    ensures stands { IfOk result
+        (λ made. (file : OutputFile)
+        → Stands tree.now (closures_by relation.now) builtin.now file (content made file)) }
 {
     use OutputFile::{
         Alias, AliasBin, BuiltinBin, Dep, DepBin, Softdep, Symbols, SymbolsBin, Unmet,
@@ -194,12 +235,14 @@ pub fn outputs(
 ) -> Result<OutputFiles, OutputFault>
     requires tree { IsTree tree.now }
     requires relation { IsRelationOf tree.now relation.now }
-    ensures ok { IfOk result (λ files. (kernel : Kernel) → IsRelation (modules_of tree.now) kernel relation.now →
+    ensures ok { IfOk result (λ files. (kernel : Kernel)
+        → IsRelation (modules_of tree.now) kernel relation.now →
         outputs_of tree.now kernel builtin.now ≡ Ok files) }
     ensures err { IfErr result (λ fault. (fault ≡ OutputFault.Memory)
         ⊎ ((kernel : Kernel) → IsRelation (modules_of tree.now) kernel relation.now →
         outputs_of tree.now kernel builtin.now ≡ Err fault)) }
-    ensures decode { IfOk result (λ files. (kernel : Kernel) → IsRelation (modules_of tree.now) kernel relation.now →
+    ensures decode { IfOk result (λ files. (kernel : Kernel)
+        → IsRelation (modules_of tree.now) kernel relation.now →
         StandFor tree.now kernel builtin.now files) }
 {
     let all = AllStated::new(alloc, tree)?;

@@ -14,7 +14,9 @@ pub(crate) fn index(alloc: Global, file: OutputFile, map: &KeyMap) -> Result<Blo
     ensures ok { IfOk result (λ bytes. bytes ≡ file_spec map.now) }
     ensures holds { IfOk result (λ bytes. Holds bytes map.now) }
     ensures passed { OnOk result (size_fault file (file_spec map.now) ≡ None) }
-    ensures err { IfErr result (λ fault. (fault ≡ OutputFault.Memory) ⊎ (size_fault file (file_spec map.now) ≡ Some fault)) }
+    ensures err { IfErr result
+        (λ fault. (fault ≡ OutputFault.Memory)
+        ⊎ (size_fault file (file_spec map.now) ≡ Some fault)) }
 {
     match encode(alloc, map) {
         Ok(bytes) => Ok(bytes),

@@ -1,5 +1,6 @@
 // What modules state for others to find them by.
-ghost use Rattle.std.specs.Prelude.{◌≡◌, ◌==◌, ◌++◌, ◌⊎◌, List, Some, None, OnOk, IfOk, IfErr, IfSome, IsTrue, All, map, codes, if◌then◌else◌};
+ghost use Rattle.std.specs.Prelude.{◌≡◌, ◌==◌, ◌++◌, ◌⊎◌, List, Some, None, OnOk, IfOk, IfErr};
+ghost use Rattle.std.specs.Prelude.{IfSome, IsTrue, All, map, codes, if◌then◌else◌};
 ghost use Rattle.std.specs.List.{list_all};
 ghost use Rattle.km_names.specs.Ascii.{is_graphic};
 ghost use Rattle.index_format.specs.Map.{IsKey};
@@ -8,8 +9,10 @@ ghost use Rattle.provider_rel.specs.Tree.{IsTree};
 ghost use Rattle.depmod_core.specs.Files.{size_fault};
 ghost use Rattle.depmod_core.specs.Lines.{ended, lines_text};
 ghost use Rattle.depmod_core.specs.Maps.{with_values};
-ghost use Rattle.depmod_core.specs.Stated.{is_usable_alias, is_usable_softdep, is_printable, aliases_of, softdeps_of, symbols_of};
-ghost use Rattle.depmod_core.specs.Kinds.{heading, statement, statements, line_of, text_of, values_with, map_for};
+ghost use Rattle.depmod_core.specs.Stated.{is_usable_alias, is_usable_softdep, is_printable};
+ghost use Rattle.depmod_core.specs.Stated.{aliases_of, softdeps_of, symbols_of};
+ghost use Rattle.depmod_core.specs.Kinds.{heading, statement, statements, line_of, text_of};
+ghost use Rattle.depmod_core.specs.Kinds.{values_with, map_for};
 ghost use Rattle.depmod_core.specs.AllStated.{AreStated, AreAllStated};
 ghost use Rattle.depmod_core.specs.Text.{with_piece};
 
@@ -50,7 +53,11 @@ impl<'a> Model for Statement<'a> {
 /// and has a normal form.
 #[tactic(auto, unfolding(crate::specs::Stated::is_usable_alias))]
 fn usable_alias(alloc: Global, alias: &[u8]) -> Result<Option<Statement<'_>>, AllocError>
-    ensures { IfOk result (λ found. found ≡ (if is_usable_alias alias.now then Some (statement StatedKind.Alias alias.now) else None)) }
+    ensures { IfOk result
+        (λ found. found
+        ≡ (if is_usable_alias alias.now
+        then Some (statement StatedKind.Alias alias.now)
+        else None)) }
 {
     if !is_graphic(alias) {
         return Ok(None);
@@ -87,7 +94,8 @@ fn is_usable_softdep(text: &[u8]) -> bool
 
 /// Returns the aliases of a module that can be used.
 fn aliases(alloc: Global, facts: &Facts) -> Result<Vec<Statement<'_>>, AllocError>
-    ensures { IfOk result (λ stated. stated.items ≡ map (statement StatedKind.Alias) (aliases_of facts.now)) }
+    ensures { IfOk result
+        (λ stated. stated.items ≡ map (statement StatedKind.Alias) (aliases_of facts.now)) }
 {
     let mut usable = Vec::new(alloc);
     for alias in facts.aliases.as_slice() {
@@ -100,7 +108,8 @@ fn aliases(alloc: Global, facts: &Facts) -> Result<Vec<Statement<'_>>, AllocErro
 
 /// Returns the texts of a module's softdeps that can be used. They have no keys.
 fn softdeps(alloc: Global, facts: &Facts) -> Result<Vec<Statement<'_>>, AllocError>
-    ensures { IfOk result (λ stated. stated.items ≡ map (statement StatedKind.Softdep) (softdeps_of facts.now)) }
+    ensures { IfOk result
+        (λ stated. stated.items ≡ map (statement StatedKind.Softdep) (softdeps_of facts.now)) }
 {
     let mut usable = Vec::new(alloc);
     for text in facts.softdeps.as_slice() {
@@ -123,7 +132,8 @@ fn symbol_key(alloc: Global, symbol: &[u8]) -> Result<Blob, AllocError>
 
 /// Returns the names of the symbols that a module exports.
 fn symbols(alloc: Global, facts: &Facts) -> Result<Vec<Statement<'_>>, AllocError>
-    ensures { IfOk result (λ stated. stated.items ≡ map (statement StatedKind.Symbol) (symbols_of facts.now)) }
+    ensures { IfOk result
+        (λ stated. stated.items ≡ map (statement StatedKind.Symbol) (symbols_of facts.now)) }
 {
     let mut names = Vec::new(alloc);
     for export in facts.exports.as_slice() {
@@ -188,7 +198,8 @@ impl<'a> AllStated<'a> {
 
     /// Returns what the modules state of a kind.
     fn of(&self, kind: StatedKind) -> &[Vec<Statement<'a>>]
-        ensures { (tree : List Facts) → AreAllStated tree self.now → AreStated kind tree result.now }
+        ensures { (tree : List Facts) → AreAllStated tree self.now
+            → AreStated kind tree result.now }
     {
         match kind {
             StatedKind::Alias => &self.aliases,
@@ -200,7 +211,8 @@ impl<'a> AllStated<'a> {
 
 /// Puts a line of the module of this name.
 fn put_line(text: &mut Text, kind: StatedKind, name: &[u8], stated: &[u8]) -> Result<(), AllocError>
-    ensures { OnOk result (text.new ≡ with_piece text.old (ended (line_of kind name.now stated.now))) }
+    ensures { OnOk result
+        (text.new ≡ with_piece text.old (ended (line_of kind name.now stated.now))) }
 {
     match kind {
         StatedKind::Alias => text.put_all(&[b"alias ", stated, b" ", name, b"\n"]),
@@ -216,7 +228,10 @@ fn put_lines(
     name: &[u8],
     all: &[Statement<'_>],
 ) -> Result<(), AllocError>
-    ensures { OnOk result (text.new ≡ with_piece text.old (lines_text (map (λ stated. line_of kind name.now stated.0) all.now))) }
+    ensures { OnOk result
+        (text.new
+        ≡ with_piece text.old
+        (lines_text (map (λ stated. line_of kind name.now stated.0) all.now))) }
 {
     for stated in all {
         put_line(text, kind, name, stated.text)?;
@@ -265,7 +280,9 @@ pub(crate) fn stated_text(
     requires { AreAllStated tree.now stated.now }
     ensures ok { IfOk result (λ bytes. bytes ≡ text_of kind tree.now) }
     ensures passed { OnOk result (size_fault file (text_of kind tree.now) ≡ None) }
-    ensures err { IfErr result (λ fault. (fault ≡ OutputFault.Memory) ⊎ (size_fault file (text_of kind tree.now) ≡ Some fault)) }
+    ensures err { IfErr result
+        (λ fault. (fault ≡ OutputFault.Memory)
+        ⊎ (size_fault file (text_of kind tree.now) ≡ Some fault)) }
 {
     let lists = stated.of(kind);
     let mut measured = Text::measured();
@@ -284,7 +301,8 @@ fn add_values(
 ) -> Result<(), AllocError>
     requires name { IsTrue (is_graphic name.now) }
     requires keys { All (λ stated. IfSome stated.1 IsKey) all.now }
-    ensures { OnOk result (key_map.new ≡ with_values key_map.old (values_with place name.now all.now)) }
+    ensures { OnOk result
+        (key_map.new ≡ with_values key_map.old (values_with place name.now all.now)) }
 {
     for stated in all {
         if let Some(key) = &stated.key {

@@ -1,5 +1,6 @@
 // Texts in the making.
-ghost use Rattle.std.specs.Prelude.{◌≡◌, ◌⊎◌, List, ℕ, Some, None, OnOk, IfOk, IfErr, length, flat_map};
+ghost use Rattle.std.specs.Prelude.{◌≡◌, ◌⊎◌, List, ℕ, Some, None, OnOk, IfOk, IfErr, length};
+ghost use Rattle.std.specs.Prelude.{flat_map};
 ghost use Rattle.depmod_core.specs.Files.{size_fault};
 ghost use Rattle.depmod_core.specs.Text.{measured, kept, with_piece};
 
@@ -49,7 +50,8 @@ impl Text {
 
     /// Puts pieces at the end, one after the other.
     pub(crate) fn put_all(&mut self, pieces: &[&[u8]]) -> Result<(), AllocError>
-        ensures { OnOk result (self.new ≡ with_piece self.old (flat_map (λ piece. piece.now) pieces.now)) }
+        ensures { OnOk result
+            (self.new ≡ with_piece self.old (flat_map (λ piece. piece.now) pieces.now)) }
     {
         for piece in pieces {
             self.put(piece)?;
@@ -63,8 +65,10 @@ impl Text {
         alloc: Global,
         file: OutputFile,
     ) -> Result<usize, OutputFault>
-        ensures ok { (bytes : List ℕ) → self.now ≡ with_piece measured bytes → OnOk result (size_fault file bytes ≡ None) }
-        ensures err { (bytes : List ℕ) → self.now ≡ with_piece measured bytes → IfErr result (λ fault.
+        ensures ok { (bytes : List ℕ) → self.now ≡ with_piece measured bytes
+            → OnOk result (size_fault file bytes ≡ None) }
+        ensures err { (bytes : List ℕ) → self.now ≡ with_piece measured bytes
+            → IfErr result (λ fault.
             (fault ≡ OutputFault.Memory) ⊎ (size_fault file bytes ≡ Some fault)) }
     {
         if self.length > FILE_LIMIT as u64 {

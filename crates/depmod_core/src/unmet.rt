@@ -15,7 +15,9 @@ use unmet_file::LineKind;
 
 /// Puts a line of a word and two names, with its line end.
 fn put_two(text: &mut Text, word: &[u8], first: &[u8], second: &[u8]) -> Result<(), AllocError>
-    ensures { OnOk result (text.new ≡ with_piece text.old (ended (two_text word.now (two_text first.now second.now)))) }
+    ensures { OnOk result
+        (text.new
+        ≡ with_piece text.old (ended (two_text word.now (two_text first.now second.now)))) }
 {
     text.put_all(&[word, b" ", first, b" ", second, b"\n"])
 }
@@ -28,7 +30,10 @@ fn put_three(
     second: &[u8],
     third: &[u8],
 ) -> Result<(), AllocError>
-    ensures { OnOk result (text.new ≡ with_piece text.old (ended (two_text word.now (three_text first.now second.now third.now)))) }
+    ensures { OnOk result
+        (text.new
+        ≡ with_piece text.old
+        (ended (two_text word.now (three_text first.now second.now third.now)))) }
 {
     text.put_all(&[word, b" ", first, b" ", second, b" ", third, b"\n"])
 }
@@ -41,7 +46,11 @@ fn put_use(
     symbol: &Name,
     provider: &PathText,
 ) -> Result<(), AllocError>
-    ensures { OnOk result (text.new ≡ with_piece text.old (ended (two_text (first_word kind) (three_text path.now symbol.now provider.now)))) }
+    ensures { OnOk result
+        (text.new
+        ≡ with_piece text.old
+        (ended
+        (two_text (first_word kind) (three_text path.now symbol.now provider.now)))) }
 {
     put_three(
         text,
@@ -108,7 +117,9 @@ fn put_lines(text: &mut Text, lines: &Obstacles) -> Result<(), AllocError>
 pub(crate) fn unmet_text(alloc: Global, lines: &Obstacles) -> Result<Blob, OutputFault>
     ensures ok { IfOk result (λ bytes. bytes ≡ file_text lines.now) }
     ensures passed { OnOk result (size_fault OutputFile.Unmet (file_text lines.now) ≡ None) }
-    ensures err { IfErr result (λ fault. (fault ≡ OutputFault.Memory) ⊎ (size_fault OutputFile.Unmet (file_text lines.now) ≡ Some fault)) }
+    ensures err { IfErr result
+        (λ fault. (fault ≡ OutputFault.Memory)
+        ⊎ (size_fault OutputFile.Unmet (file_text lines.now) ≡ Some fault)) }
 {
     let mut measured = Text::measured();
     put_lines(&mut measured, lines)?;

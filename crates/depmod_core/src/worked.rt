@@ -12,10 +12,14 @@ ghost use Rattle.depmod_core.specs.Worked.{a_ko, b_ko, c_ko, x_ko};
 pub fn texts_of_small_trees()
     ensures dep { dep_text (a_ko ∷ b_ko ∷ c_ko ∷ []) ([] ∷ (0 ∷ []) ∷ (0 ∷ 1 ∷ []) ∷ [])
         ≡ codes "kernel/a.ko:\nkernel/b.ko: kernel/a.ko\nkernel/c.ko: kernel/b.ko kernel/a.ko\n" }
-    ensures alias { alias_text (x_ko ∷ []) ≡ codes "# Aliases extracted from modules themselves.\nalias pci-x:v0000[!a-f]d* x\n" }
-    ensures softdep { softdep_text (x_ko ∷ []) ≡ codes "# Soft dependencies extracted from modules themselves.\nsoftdep x pre: a-b\n" }
-    ensures symbols { symbols_text (x_ko ∷ []) ≡ codes "# Aliases for symbols, used by symbol_request().\nalias symbol:fx x\n" }
-    ensures built_in { built_in_names (codes "kernel/lib/b-c.ko\n\nkernel/b_c.ko\nkernel/d.ko") ≡ codes "b_c" ∷ codes "d" ∷ [] }
+    ensures alias { alias_text (x_ko ∷ [])
+        ≡ codes "# Aliases extracted from modules themselves.\nalias pci-x:v0000[!a-f]d* x\n" }
+    ensures softdep { softdep_text (x_ko ∷ [])
+        ≡ codes "# Soft dependencies extracted from modules themselves.\nsoftdep x pre: a-b\n" }
+    ensures symbols { symbols_text (x_ko ∷ [])
+        ≡ codes "# Aliases for symbols, used by symbol_request().\nalias symbol:fx x\n" }
+    ensures built_in { built_in_names (codes "kernel/lib/b-c.ko\n\nkernel/b_c.ko\nkernel/d.ko")
+        ≡ codes "b_c" ∷ codes "d" ∷ [] }
 {}
 
 /// States the map of modules.dep.bin for two modules, one depending on the other.

@@ -1,5 +1,6 @@
 -- The file modules.devname: its text, and what is read from one. kmod's depmod, "devname".
-use Rattle.std.specs.Prelude.{◌≡◌, ℕ, ◌+◌, ◌&&◌, not, Bool, true, All, List, [], ◌∷◌, ◌++◌, Option, option_map, is_none, Result, Ok, codes}
+use Rattle.std.specs.Prelude.{◌≡◌, ℕ, ◌+◌, ◌&&◌, not, Bool, true, All, List, [], ◌∷◌, ◌++◌, Option}
+use Rattle.std.specs.Prelude.{option_map, is_none, Result, Ok, codes}
 use Rattle.std.specs.List.{flat_map, filter_map, position}
 use Rattle.km_names.specs.Ascii.{is_graphic}
 use Rattle.km_names.specs.Lines.{lines_of}
@@ -27,7 +28,8 @@ is_bad line = is_none (line_node line) && not (is_ignored line)
 
 -- The place of the first line of the text that is refused, in the file at the path.
 unfoldable pub bad_line : List ℕ → List ℕ → Option LinePlace
-bad_line file text = option_map (λ i. record { file = file; number = i + 1 }) (position is_bad (lines_of text))
+bad_line file text =
+    option_map (λ i. record { file = file; number = i + 1 }) (position is_bad (lines_of text))
 
 -- The nodes that the lines of a text state, in order.
 unfoldable pub stated_nodes : List ℕ → List Node
@@ -41,4 +43,5 @@ read_of file text = unless_fault (bad_line file text) (stated_nodes text)
 -- What is written of a tree whose modules have words of visible characters for names is read back.
 abbrev pub AreReadBack : Type 0
 AreReadBack =
-    (file : List ℕ) (tree : List Facts) → All (λ (f : Facts). is_graphic f.name ≡ true) tree → read_of file (nodes_text (nodes_of tree)) ≡ Ok (nodes_of tree)
+    (file : List ℕ) (tree : List Facts) → All (λ (f : Facts). is_graphic f.name ≡ true) tree
+    → read_of file (nodes_text (nodes_of tree)) ≡ Ok (nodes_of tree)

@@ -1,7 +1,9 @@
 -- The device nodes that modules ask for, by their aliases. kmod's depmod, "devname"; the kernel's
 -- MODULE_ALIAS_MISCDEV, MODULE_ALIAS_CHARDEV and MODULE_ALIAS_BLOCKDEV, include/linux/miscdevice.h,
 -- include/linux/fs.h.
-use Rattle.std.specs.Prelude.{ℕ, ◌==◌, ◌&&◌, Bool, true, false, List, map, length, drop, nat_eq, nat_lt, Option, Some, None, option_map, option_and_then, is_some, if◌then◌else◌, codes, slice_index}
+use Rattle.std.specs.Prelude.{ℕ, ◌==◌, ◌&&◌, Bool, true, false, List, map, length, drop, nat_eq}
+use Rattle.std.specs.Prelude.{nat_lt, Option, Some, None, option_map, option_and_then, is_some}
+use Rattle.std.specs.Prelude.{if◌then◌else◌, codes, slice_index}
 use Rattle.std.specs.List.{filter_map, starts_with}
 use Rattle.km_names.specs.Ascii.{is_graphic}
 use Rattle.km_names.specs.First.{first}
@@ -12,7 +14,8 @@ use Rattle.devname_nodes.specs.Numbers.{numbers}
 
 -- The rest of a text after a prefix, if the text begins with it.
 abbrev pub after_prefix : List ℕ → List ℕ → Option (List ℕ)
-after_prefix prefix text = if starts_with nat_eq text prefix then Some (drop (length prefix) text) else None
+after_prefix prefix text =
+    if starts_with nat_eq text prefix then Some (drop (length prefix) text) else None
 
 -- A word of visible characters, or none.
 abbrev pub word : List ℕ → Option (List ℕ)
@@ -24,11 +27,14 @@ device_of alias = option_and_then word (after_prefix (codes "devname:") alias)
 
 -- The device number that an alias states as `char-major-M-N` or as `block-major-M-N`.
 abbrev pub numbered : Bool → Option (List ℕ) → Option DeviceNumber
-numbered block text = option_map (λ n. record { block = block; major = n.0; minor = n.1 }) (option_and_then numbers text)
+numbered block text =
+    option_map (λ n. record { block = block; major = n.0; minor = n.1 })
+    (option_and_then numbers text)
 
 abbrev pub number_of : List ℕ → Option DeviceNumber
 number_of alias =
-    if is_some (after_prefix (codes "char-major-") alias) then numbered false (after_prefix (codes "char-major-") alias)
+    if is_some (after_prefix (codes "char-major-") alias)
+    then numbered false (after_prefix (codes "char-major-") alias)
     else numbered true (after_prefix (codes "block-major-") alias)
 
 -- Whether a text begins as a comment.
@@ -38,7 +44,11 @@ is_comment text = nat_lt 0 (length text) && slice_index text 0 == 35
 -- The node of a module of this name, by its device and its number.
 abbrev pub node_by : List ℕ → Option (List ℕ) → Option DeviceNumber → Option Node
 node_by name device number =
-    option_and_then (λ d. option_map (λ n. record { «module» = name; device = d; block = n.block; major = n.major; minor = n.minor }) number) device
+    option_and_then
+    (λ d. option_map
+    (λ n. record
+    { «module» = name; device = d; block = n.block; major = n.major; minor = n.minor })
+    number) device
 
 -- The node of a module: the first device that its aliases name, and the first number that they
 -- state. A module whose name begins as a comment has none.

@@ -3,7 +3,8 @@ ghost use Rattle.std.specs.Prelude.{◌≡◌, ◌≤◌, ◌==◌, length, IsTr
 ghost use Rattle.std.specs.List.{list_all};
 ghost use Rattle.std.specs.Char.{is_digit, digit_value};
 ghost use Rattle.std.specs.Str.Parse.{digits_value};
-ghost use Rattle.devname_nodes.specs.Numbers.{number as number_spec, plain_number, numbers, plain_numbers, has_leading_zero};
+ghost use Rattle.devname_nodes.specs.Numbers.{number as number_spec, plain_number, numbers};
+ghost use Rattle.devname_nodes.specs.Numbers.{plain_numbers, has_leading_zero};
 
 use km_names::split_at_byte;
 

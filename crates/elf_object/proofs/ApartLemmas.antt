@@ -1,5 +1,7 @@
 -- Places that passed the test of overlaps share no byte.
-use Rattle.std.proofs.Common.{◌≡◌, ℕ, zero, suc, ◌+◌, ◌<◌, ◌≤◌, ◌==◌, ◌&&◌, nat_lt, nat_le, Bool, true, cond, List, [], ◌∷◌, length, get_or, Option, Some, None, refl, sym, arith}
+use Rattle.std.proofs.Common.{◌≡◌, ℕ, zero, suc, ◌+◌, ◌<◌, ◌≤◌, ◌==◌, ◌&&◌, nat_lt, nat_le, Bool}
+use Rattle.std.proofs.Common.{true, cond, List, [], ◌∷◌, length, get_or, Option, Some, None, refl}
+use Rattle.std.proofs.Common.{sym, arith}
 use Rattle.std.specs.Prelude.{All, AllPairs, option_map}
 use Rattle.std.specs.List.{count_by, position, range_with_len}
 use Rattle.std.proofs.Math.Nat.{zero-add}
@@ -19,7 +21,8 @@ use Rattle.elf_sections.proofs.StringLemmas.{position-nowhere_is}
 use Rattle.elf_object.proofs.TestLemmas.{each-none}
 
 -- an item that passes is counted
-count_by-one : {X : Type 0} (p : X → Bool) (xs : List X) (j : ℕ) (d : X) → j < length xs → p (get_or xs j d) ≡ true → 0 < count_by p xs
+count_by-one : {X : Type 0} (p : X → Bool) (xs : List X) (j : ℕ) (d : X) → j < length xs
+    → p (get_or xs j d) ≡ true → 0 < count_by p xs
 count_by-one p [] j d less here = absurd (omega arith)
 count_by-one p (x ∷ xs) zero d less here =
     let count = sum_by-cons (λ y. cond (p y) 1 0) x xs in
@@ -31,7 +34,8 @@ count_by-one p (x ∷ xs) (suc j) d less here =
     omega arith
 
 -- two items that pass are counted
-count_by-pair : {X : Type 0} (p : X → Bool) (xs : List X) (i j : ℕ) (d : X) → i < j → j < length xs → p (get_or xs i d) ≡ true → p (get_or xs j d) ≡ true → 1 < count_by p xs
+count_by-pair : {X : Type 0} (p : X → Bool) (xs : List X) (i j : ℕ) (d : X) → i < j → j < length xs
+    → p (get_or xs i d) ≡ true → p (get_or xs j d) ≡ true → 1 < count_by p xs
 count_by-pair p [] i j d before less here there = absurd (omega arith)
 count_by-pair p (x ∷ xs) i zero d before less here there = absurd (omega arith)
 count_by-pair p (x ∷ xs) zero (suc j) d before less here there =
@@ -49,25 +53,31 @@ option_map-none f None none = refl
 option_map-none f (Some x) none = cc
 
 -- no byte of a section that passed its test is changed twice
-overlap_test-once : (b : List ℕ) (i : ℕ) → overlap_test b i ≡ None → (x : ℕ) → x < (section_of b i).size → count_by (covers i x) (places_of b) ≤ 1
+overlap_test-once : (b : List ℕ) (i : ℕ) → overlap_test b i ≡ None → (x : ℕ)
+    → x < (section_of b i).size → count_by (covers i x) (places_of b) ≤ 1
 unfolding overlap_test is_shared
 overlap_test-once b i passed x less =
     let size = (section_of b i).size in
     let shared = is_shared (places_of b) i in
-    let none = option_map-none (λ y. OverlappingPlaces i y) (position shared (range_with_len 0 size)) passed in
+    let none
+    = option_map-none (λ y. OverlappingPlaces i y) (position shared (range_with_len 0 size))
+    passed in
     let length_is = length-range_with_len 0 size in
     let apart = position-nowhere_is shared (range_with_len 0 size) x 0 none (omega arith) in
-    ltb-false 1 (count_by (covers i x) (places_of b)) (rw (get_or-range_with_len 0 size x 0 less, zero-add x) at apart)
+    ltb-false 1 (count_by (covers i x) (places_of b))
+    (rw (get_or-range_with_len 0 size x 0 less, zero-add x) at apart)
 
 covers-changes : (t x : ℕ) (p : RelaPlace) → p.target ≡ t → Changes p x → covers t x p ≡ true
 unfolding covers
 covers-changes t x p target changes =
     and_from (p.target == t && nat_le p.offset x) (nat_lt x (p.offset + place_width p))
-    (and_from (p.target == t) (nat_le p.offset x) (eq-eqb p.target t target) (le-leb p.offset x changes.0))
+    (and_from (p.target == t) (nat_le p.offset x) (eq-eqb p.target t target)
+    (le-leb p.offset x changes.0))
     (lt-ltb x (p.offset + place_width p) changes.1)
 
 -- the places of a file that passed the test
-pub AllPairs-places_of : (b : List ℕ) → All (IsInSection b) (places_of b) → first (each (section_count b) (overlap_test b)) ≡ None → AllPairs AreApart (places_of b)
+pub AllPairs-places_of : (b : List ℕ) → All (IsInSection b) (places_of b)
+    → first (each (section_count b) (overlap_test b)) ≡ None → AllPairs AreApart (places_of b)
 AllPairs-places_of b inside passed = λ i j d before less. λ same x one two.
     let places = places_of b in
     let p = get_or places i d in
@@ -79,5 +89,7 @@ AllPairs-places_of b inside passed = λ i j d before less. λ same x one two.
     let size = is_in.within some in
     let test = each-none (section_count b) (overlap_test b) passed p.target is_in.target in
     let once = overlap_test-once b p.target test x (omega arith) in
-    let twice = count_by-pair (covers p.target x) places i j d before less (covers-changes p.target x p refl one) (covers-changes p.target x q (sym same) two) in
+    let twice
+    = count_by-pair (covers p.target x) places i j d before less
+    (covers-changes p.target x p refl one) (covers-changes p.target x q (sym same) two) in
     omega arith

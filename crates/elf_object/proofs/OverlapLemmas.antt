@@ -2,8 +2,12 @@
 use Rattle.std.specs.Prelude.{option_map}
 use Rattle.km_names.specs.Limit.{file_limit}
 use Rattle.elf_object.proofs.SpanLemmas.{is_between-from, is_between-true}
-use Rattle.std.proofs.Common.{◌≡◌, ℕ, ◌+◌, ◌*◌, ◌^◌, ◌<◌, ◌≤◌, ◌&&◌, ◌==◌, nat_lt, nat_le, Bool, true, false, cond, List, [], ◌∷◌, length, All, Some, None, refl, sym, ap, ◌∙◌, inl, inr, arith}
-use Rattle.std.proofs.lemmas.Bool.{cases_Bool, cases_lt, lt-ltb, le-ltb, ltb-true, and_parts, and_from, and_right, both_ways, eq-eqb, eqb-true, le-leb, leb-true, and_left, lt-leb}
+use Rattle.std.proofs.Common.{◌≡◌, ℕ, ◌+◌, ◌*◌, ◌^◌, ◌<◌, ◌≤◌, ◌&&◌, ◌==◌, nat_lt, nat_le, Bool}
+use Rattle.std.proofs.Common.{true, false, cond, List, [], ◌∷◌, length, All, Some, None, refl, sym}
+use Rattle.std.proofs.Common.{ap, ◌∙◌, inl, inr, arith}
+use Rattle.std.proofs.lemmas.Bool.{cases_Bool, cases_lt, lt-ltb, le-ltb, ltb-true, and_parts}
+use Rattle.std.proofs.lemmas.Bool.{and_from, and_right, both_ways, eq-eqb, eqb-true, le-leb}
+use Rattle.std.proofs.lemmas.Bool.{leb-true, and_left, lt-leb}
 use Rattle.std.proofs.lemmas.List.Elements.{All-head, All-tail, All-weaker}
 use Rattle.std.proofs.lemmas.List.Sums.{sum_by-cons}
 use Rattle.std.specs.List.{count_by}
@@ -19,14 +23,17 @@ use Rattle.elf_sections.proofs.TestLemmas.{each-failed, each-passed}
 use Rattle.elf_object.proofs.TableLemmas.{position-no_number, position-number}
 
 -- a place of the file is near
-pub IsNear-inside : (b : List ℕ) (p : RelaPlace) → length b ≤ file_limit → IsInSection b p → IsNear p
+pub IsNear-inside : (b : List ℕ) (p : RelaPlace) → length b ≤ file_limit → IsInSection b p
+    → IsNear p
 IsNear-inside b p small inside = λ bytes.
     let within = inside.within bytes in
     let size = inside.in_file bytes in
     (inside.near, omega arith)
 
 -- the byte at x of a section, and its number
-covers-number : (t x w : ℕ) (p : RelaPlace) → x < 2 ^ 32 → (0 < w → p.offset + w ≤ 2 ^ 32) → is_between (p.target * 2 ^ 32 + p.offset) (p.target * 2 ^ 32 + p.offset + w) (t * 2 ^ 32 + x) ≡ (p.target == t && nat_le p.offset x && nat_lt x (p.offset + w))
+covers-number : (t x w : ℕ) (p : RelaPlace) → x < 2 ^ 32 → (0 < w → p.offset + w ≤ 2 ^ 32)
+    → is_between (p.target * 2 ^ 32 + p.offset) (p.target * 2 ^ 32 + p.offset + w) (t * 2 ^ 32 + x)
+    ≡ (p.target == t && nat_le p.offset x && nat_lt x (p.offset + w))
 covers-number t x w p less near =
     let start = p.target * 2 ^ 32 + p.offset in
     let a = t * 2 ^ 32 + x in
@@ -48,14 +55,18 @@ covers-number t x w p less near =
             let low : p.offset ≤ x = omega arith in
             let high : x < p.offset + w = omega arith in
             absurd (both_ways (both && nat_lt x (p.offset + w)) other
-            (and_from both (nat_lt x (p.offset + w)) (and_from (p.target == t) (nat_le p.offset x) (eq-eqb p.target t target) (le-leb p.offset x low)) (lt-ltb x (p.offset + w) high)))
+            (and_from both (nat_lt x (p.offset + w))
+            (and_from (p.target == t) (nat_le p.offset x) (eq-eqb p.target t target)
+            (le-leb p.offset x low)) (lt-ltb x (p.offset + w) high)))
         | inr apart ↦ apart ∙ sym other
       ]
     ]
 
-pub is_between-covers : (t x : ℕ) (p : RelaPlace) → x < 2 ^ 32 → IsNear p → is_between (place_start p) (place_end p) (t * 2 ^ 32 + x) ≡ covers t x p
+pub is_between-covers : (t x : ℕ) (p : RelaPlace) → x < 2 ^ 32 → IsNear p
+    → is_between (place_start p) (place_end p) (t * 2 ^ 32 + x) ≡ covers t x p
 unfolding covers
-is_between-covers t x p less near = covers-number t x (place_width p) p less (λ bytes. (near bytes).1)
+is_between-covers t x p less near =
+    covers-number t x (place_width p) p less (λ bytes. (near bytes).1)
 
 -- no place reaches past the 2^32 bytes of its section
 pub covers-far : (t x : ℕ) (p : RelaPlace) → 2 ^ 32 ≤ x → IsNear p → covers t x p ≡ false
@@ -74,14 +85,17 @@ covers-far t x p far near =
     ]
 
 -- counts of the same items
-count_by-same : {X : Type 0} (p q : X → Bool) (P : X → Type 0) → ((x : X) → P x → p x ≡ q x) → (xs : List X) → All P xs → count_by p xs ≡ count_by q xs
+count_by-same : {X : Type 0} (p q : X → Bool) (P : X → Type 0) → ((x : X) → P x → p x ≡ q x)
+    → (xs : List X) → All P xs → count_by p xs ≡ count_by q xs
 count_by-same p q P same [] all = refl
 count_by-same p q P same (x ∷ xs) all =
     let here = same x (All-head P x xs all) in
     let rest = count_by-same p q P same xs (All-tail P x xs all) in
-    sum_by-cons (λ y. cond (p y) 1 0) x xs ∙ rw (here, rest) (sym (sum_by-cons (λ y. cond (q y) 1 0) x xs))
+    sum_by-cons (λ y. cond (p y) 1 0) x xs
+    ∙ rw (here, rest) (sym (sum_by-cons (λ y. cond (q y) 1 0) x xs))
 
-count_by-none : {X : Type 0} (p : X → Bool) (P : X → Type 0) → ((x : X) → P x → p x ≡ false) → (xs : List X) → All P xs → count_by p xs ≡ 0
+count_by-none : {X : Type 0} (p : X → Bool) (P : X → Type 0) → ((x : X) → P x → p x ≡ false)
+    → (xs : List X) → All P xs → count_by p xs ≡ 0
 count_by-none p P none [] all = refl
 count_by-none p P none (x ∷ xs) all =
     let here = none x (All-head P x xs all) in
@@ -89,7 +103,8 @@ count_by-none p P none (x ∷ xs) all =
     sum_by-cons (λ y. cond (p y) 1 0) x xs ∙ rw (here, rest) refl
 
 -- an item that is counted
-count_by-member : {X : Type 0} (p : X → Bool) (xs : List X) → 0 < count_by p xs → (x : X) × ((P : X → Type 0) → All P xs → P x) × (p x ≡ true)
+count_by-member : {X : Type 0} (p : X → Bool) (xs : List X) → 0 < count_by p xs
+    → (x : X) × ((P : X → Type 0) → All P xs → P x) × (p x ≡ true)
 count_by-member p [] some = absurd (omega arith)
 count_by-member p (x ∷ xs) some = elim (cases_Bool (p x)) [
   | inl here ↦ (x, λ P all. All-head P x xs all, here)
@@ -102,63 +117,88 @@ count_by-member p (x ∷ xs) some = elim (cases_Bool (p x)) [
 ]
 
 -- a file whose places lie in their sections
-module _ (b : List ℕ) (small : length b ≤ file_limit) (inside : All (IsInSection b) (places_of b)) where
-  near_places : All IsNear (places_of b)
-  near_places = All-weaker (IsInSection b) IsNear (λ p. IsNear-inside b p small) (places_of b) inside
+module _ (b : List ℕ) (small : length b ≤ file_limit) (inside : All (IsInSection b) (places_of b))
+  where
+    near_places : All IsNear (places_of b)
+    near_places
+        = All-weaker (IsInSection b) IsNear (λ p. IsNear-inside b p small) (places_of b) inside
 
-  -- a byte of a section is shared where its number is counted twice
-  is_shared-number : (t x : ℕ) → x < 2 ^ 32 → is_shared (places_of b) t x ≡ nat_lt 1 (count_at place_start place_end (t * 2 ^ 32 + x) (places_of b))
-  unfolding is_shared
-  is_shared-number t x less =
-      ap (nat_lt 1) (sym (count_by-same (λ p. is_between (place_start p) (place_end p) (t * 2 ^ 32 + x)) (covers t x) IsNear
-      (λ p near. is_between-covers t x p less near) (places_of b) near_places))
+    -- a byte of a section is shared where its number is counted twice
+    is_shared-number : (t x : ℕ) → x < 2 ^ 32
+        → is_shared (places_of b) t x
+        ≡ nat_lt 1 (count_at place_start place_end (t * 2 ^ 32 + x) (places_of b))
+    unfolding is_shared
+    is_shared-number t x less =
+        ap (nat_lt 1) (sym (count_by-same
+        (λ p. is_between (place_start p) (place_end p) (t * 2 ^ 32 + x)) (covers t x) IsNear
+        (λ p near. is_between-covers t x p less near) (places_of b) near_places))
 
-  is_shared-far : (t x : ℕ) → 2 ^ 32 ≤ x → is_shared (places_of b) t x ≡ false
-  unfolding is_shared
-  is_shared-far t x far =
-      ap (nat_lt 1) (count_by-none (covers t x) IsNear (λ p near. covers-far t x p far near) (places_of b) near_places)
+    is_shared-far : (t x : ℕ) → 2 ^ 32 ≤ x → is_shared (places_of b) t x ≡ false
+    unfolding is_shared
+    is_shared-far t x far =
+        ap (nat_lt 1)
+        (count_by-none (covers t x) IsNear (λ p near. covers-far t x p far near) (places_of b)
+        near_places)
 
-  -- where its number is counted once at most, a byte isn't shared
-  is_shared-once : (t x : ℕ) → (x < 2 ^ 32 → count_at place_start place_end (t * 2 ^ 32 + x) (places_of b) ≤ 1) → is_shared (places_of b) t x ≡ false
-  is_shared-once t x once = elim (cases_lt x (2 ^ 32)) [
-    | inl less ↦ is_shared-number t x less ∙ le-ltb 1 (count_at place_start place_end (t * 2 ^ 32 + x) (places_of b)) (once less)
-    | inr far ↦ is_shared-far t x far
-  ]
+    -- where its number is counted once at most, a byte isn't shared
+    is_shared-once : (t x : ℕ)
+        → (x < 2 ^ 32 → count_at place_start place_end (t * 2 ^ 32 + x) (places_of b) ≤ 1)
+        → is_shared (places_of b) t x ≡ false
+    is_shared-once t x once = elim (cases_lt x (2 ^ 32)) [
+      | inl less ↦ is_shared-number t x less
+          ∙ le-ltb 1 (count_at place_start place_end (t * 2 ^ 32 + x) (places_of b)) (once less)
+      | inr far ↦ is_shared-far t x far
+    ]
 
-  -- no byte is shared in the section i
-  overlap_test-none : (i : ℕ) → ((x : ℕ) → x < 2 ^ 32 → count_at place_start place_end (i * 2 ^ 32 + x) (places_of b) ≤ 1) → overlap_test b i ≡ None
-  unfolding overlap_test
-  overlap_test-none i once =
-      ap (option_map (λ x. OverlappingPlaces i x))
-      (position-no_number (is_shared (places_of b) i) (section_of b i).size (λ k less. is_shared-once i k (λ near. once k near)))
+    -- no byte is shared in the section i
+    overlap_test-none : (i : ℕ)
+        → ((x : ℕ) → x < 2 ^ 32 → count_at place_start place_end (i * 2 ^ 32 + x) (places_of b) ≤ 1)
+        → overlap_test b i ≡ None
+    unfolding overlap_test
+    overlap_test-none i once =
+        ap (option_map (λ x. OverlappingPlaces i x))
+        (position-no_number (is_shared (places_of b) i) (section_of b i).size
+        (λ k less. is_shared-once i k (λ near. once k near)))
 
-  overlap_test-found : (i x : ℕ) → x < 2 ^ 32 → x < (section_of b i).size → 1 < count_at place_start place_end (i * 2 ^ 32 + x) (places_of b) → ((k : ℕ) → k < x → count_at place_start place_end (i * 2 ^ 32 + k) (places_of b) ≤ 1) → overlap_test b i ≡ Some (OverlappingPlaces i x)
-  unfolding overlap_test
-  overlap_test-found i x near less twice before =
-      ap (option_map (λ y. OverlappingPlaces i y))
-      (position-number (is_shared (places_of b) i) (section_of b i).size x less
-      (λ k below. is_shared-once i k (λ _. before k below))
-      (is_shared-number i x near ∙ lt-ltb 1 (count_at place_start place_end (i * 2 ^ 32 + x) (places_of b)) twice))
+    overlap_test-found : (i x : ℕ) → x < 2 ^ 32 → x < (section_of b i).size
+        → 1 < count_at place_start place_end (i * 2 ^ 32 + x) (places_of b)
+        → ((k : ℕ) → k < x → count_at place_start place_end (i * 2 ^ 32 + k) (places_of b) ≤ 1)
+        → overlap_test b i ≡ Some (OverlappingPlaces i x)
+    unfolding overlap_test
+    overlap_test-found i x near less twice before =
+        ap (option_map (λ y. OverlappingPlaces i y))
+        (position-number (is_shared (places_of b) i) (section_of b i).size x less
+        (λ k below. is_shared-once i k (λ _. before k below))
+        (is_shared-number i x near
+        ∙ lt-ltb 1 (count_at place_start place_end (i * 2 ^ 32 + x) (places_of b)) twice))
 
-  -- no number is counted twice
-  pub overlaps-none : ((a : ℕ) → count_at place_start place_end a (places_of b) ≤ 1) → first (each (section_count b) (overlap_test b)) ≡ None
-  overlaps-none once =
-      each-passed (section_count b) (overlap_test b) (λ i less. overlap_test-none i (λ x near. once (i * 2 ^ 32 + x)))
+    -- no number is counted twice
+    pub overlaps-none : ((a : ℕ) → count_at place_start place_end a (places_of b) ≤ 1)
+        → first (each (section_count b) (overlap_test b)) ≡ None
+    overlaps-none once =
+        each-passed (section_count b) (overlap_test b)
+        (λ i less. overlap_test-none i (λ x near. once (i * 2 ^ 32 + x)))
 
-  -- the least number that is counted twice
-  pub overlaps-found : (t x : ℕ) → x < 2 ^ 32 → 1 < count_at place_start place_end (t * 2 ^ 32 + x) (places_of b) → ((k : ℕ) → k < t * 2 ^ 32 + x → count_at place_start place_end k (places_of b) ≤ 1) → first (each (section_count b) (overlap_test b)) ≡ Some (OverlappingPlaces t x)
-  overlaps-found t x near twice before =
-      let member = count_by-member (λ p. is_between (place_start p) (place_end p) (t * 2 ^ 32 + x)) (places_of b) (omega arith) in
-      let p = member.0 in
-      let is_near = member.1 IsNear near_places in
-      let is_inside = member.1 (IsInSection b) inside in
-      let numbers = is_between-true (place_start p) (place_end p) (t * 2 ^ 32 + x) member.2 in
-      let bytes : 0 < place_width p = omega arith in
-      let fits = is_near bytes in
-      let target : p.target ≡ t = omega arith in
-      let within : x < p.offset + place_width p = omega arith in
-      let size = rw target at (is_inside.within bytes) in
-      let less = rw target at is_inside.target in
-      each-failed (section_count b) (overlap_test b) t (OverlappingPlaces t x) less
-      (λ i below. overlap_test-none i (λ y close. before (i * 2 ^ 32 + y) (omega arith)))
-      (overlap_test-found t x near (omega arith) twice (λ k below. before (t * 2 ^ 32 + k) (omega arith)))
+    -- the least number that is counted twice
+    pub overlaps-found : (t x : ℕ) → x < 2 ^ 32
+        → 1 < count_at place_start place_end (t * 2 ^ 32 + x) (places_of b)
+        → ((k : ℕ) → k < t * 2 ^ 32 + x → count_at place_start place_end k (places_of b) ≤ 1)
+        → first (each (section_count b) (overlap_test b)) ≡ Some (OverlappingPlaces t x)
+    overlaps-found t x near twice before =
+        let member
+        = count_by-member (λ p. is_between (place_start p) (place_end p) (t * 2 ^ 32 + x))
+        (places_of b) (omega arith) in
+        let p = member.0 in
+        let is_near = member.1 IsNear near_places in
+        let is_inside = member.1 (IsInSection b) inside in
+        let numbers = is_between-true (place_start p) (place_end p) (t * 2 ^ 32 + x) member.2 in
+        let bytes : 0 < place_width p = omega arith in
+        let fits = is_near bytes in
+        let target : p.target ≡ t = omega arith in
+        let within : x < p.offset + place_width p = omega arith in
+        let size = rw target at (is_inside.within bytes) in
+        let less = rw target at is_inside.target in
+        each-failed (section_count b) (overlap_test b) t (OverlappingPlaces t x) less
+        (λ i below. overlap_test-none i (λ y close. before (i * 2 ^ 32 + y) (omega arith)))
+        (overlap_test-found t x near (omega arith) twice
+        (λ k below. before (t * 2 ^ 32 + k) (omega arith)))

@@ -17,7 +17,8 @@ use Rattle.elf_object.specs.Symbols.{symbol_table}
 pub record TablesFit (b : List ℕ) : Type 0 where
   pub table : (t : ℕ) → symbol_table b ≡ Some t → t < section_count b
   pub names : (t : ℕ) → symbol_table b ≡ Some t → (section_of b t).link < section_count b
-  pub targets : (i : ℕ) → i < section_count b → (section_of b i).kind ≡ SHT_RELA → (section_of b i).info < section_count b
+  pub targets : (i : ℕ) → i < section_count b → (section_of b i).kind ≡ SHT_RELA
+      → (section_of b i).info < section_count b
 
 -- For each symbol whether it lies in a section that isn't kept. gABI 4, "Symbol Table", st_shndx.
 abbrev pub unkept_flags : List Section → List Symbol → List Bool

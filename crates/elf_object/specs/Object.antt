@@ -1,6 +1,7 @@
 -- An object file: its sections, its symbols, and the places that its relocations change.
 -- gABI 4, "Object Files"; x86-64 psABI, "Object Files".
-use Rattle.std.specs.Prelude.{◌≡◌, ◌≢◌, ℕ, ◌+◌, ◌^◌, ◌<◌, ◌≤◌, true, false, List, ◌∷◌, ◌++◌, length, All, AllPairs, IsTrue, IfSome, Option, option_map, slice_get}
+use Rattle.std.specs.Prelude.{◌≡◌, ◌≢◌, ℕ, ◌+◌, ◌^◌, ◌<◌, ◌≤◌, true, false, List, ◌∷◌, ◌++◌, length}
+use Rattle.std.specs.Prelude.{All, AllPairs, IsTrue, IfSome, Option, option_map, slice_get}
 use Rattle.elf_format.specs.declared.section.TheConstants.{SHT_NOBITS}
 use Rattle.elf_format.specs.declared.symbol.TheConstants.{SHN_LORESERVE, SHN_ABS, STB_WEAK}
 use Rattle.elf_format.specs.Relocation.{IsKnown}
@@ -25,7 +26,8 @@ pub record FileObject : Type 0 where
 
 -- The object of a file.
 abbrev pub file_object : List ℕ → FileObject
-file_object b = record { file = b; sections = sections_of b; symbols = symbols_of b; places = places_of b }
+file_object b =
+    record { file = b; sections = sections_of b; symbols = symbols_of b; places = places_of b }
 
 -- One section of a file is valid: its bytes are in the file, and its alignment is valid if it is
 -- kept in memory. gABI 4, "Sections", sh_size and sh_addralign.
@@ -43,13 +45,16 @@ pub record IsSymbolIn (sections : List Section) (s : Symbol) : Type 0 where
 -- One place is valid: its type is known, its symbol is one of these, and its target is one of these
 -- sections and kept. If it changes bytes, they lie in the target, which has bytes in the file, and
 -- the symbol doesn't lie in a section that isn't kept. gABI 4, "Relocation".
-pub record IsPlaceIn (sections : List Section) (symbols : List Symbol) (p : RelaPlace) : Type 0 where
-  pub known : IsKnown p.kind
-  pub symbol : p.symbol < length symbols
-  pub target : p.target < length sections
-  pub kept : IfSome (slice_get sections p.target) (λ t. t.kept ≡ true)
-  pub within : 0 < place_width p → IfSome (slice_get sections p.target) (λ t. (t.kind ≢ SHT_NOBITS) × (p.offset + place_width p ≤ t.size))
-  pub linked : 0 < place_width p → is_unkept sections symbols p.symbol ≡ false
+pub record IsPlaceIn (sections : List Section) (symbols : List Symbol) (p : RelaPlace) : Type 0
+  where
+    pub known : IsKnown p.kind
+    pub symbol : p.symbol < length symbols
+    pub target : p.target < length sections
+    pub kept : IfSome (slice_get sections p.target) (λ t. t.kept ≡ true)
+    pub within : 0 < place_width p
+        → IfSome (slice_get sections p.target)
+        (λ t. (t.kind ≢ SHT_NOBITS) × (p.offset + place_width p ≤ t.size))
+    pub linked : 0 < place_width p → is_unkept sections symbols p.symbol ≡ false
 
 -- The place changes the byte at x of its target.
 abbrev pub Changes : RelaPlace → ℕ → Type 0
@@ -68,11 +73,14 @@ pub record IsLoadable (o : FileObject) : Type 0 where
   pub apart : AllPairs AreApart o.places
 
 -- What is known of the parts of every object that was read.
-pub record IsObject (sections : FileSections) (symbols : List Symbol) (places : List RelaPlace) : Type 0 where
+pub record IsObject (sections : FileSections) (symbols : List Symbol) (places : List RelaPlace) :
+    Type 0 where
   pub listed : places ≡ places_of sections.file
   pub small : length sections.file ≤ file_limit
   pub few : length symbols < 2 ^ 32
-  pub loadable : IsLoadable (record { file = sections.file; sections = sections.list; symbols = symbols; places = places })
+  pub loadable : IsLoadable
+      (record
+      { file = sections.file; sections = sections.list; symbols = symbols; places = places })
 
 -- The tests of the contents of a file's sections, in order.
 abbrev pub content_tests : List ℕ → List (Option ObjectFault)

@@ -1,7 +1,8 @@
 -- Bytes that two places change, as the search for them sees them. The bytes of all sections are in
 -- one line, 2^32 for each section, so that each byte has a number. It belongs to the code: no
 -- public meaning rests on it.
-use Rattle.std.specs.Prelude.{◌≡◌, ℕ, ◌+◌, ◌*◌, ◌^◌, ◌<◌, ◌≤◌, ◌&&◌, nat_lt, nat_le, Bool, true, List, Option, MatchOption}
+use Rattle.std.specs.Prelude.{◌≡◌, ℕ, ◌+◌, ◌*◌, ◌^◌, ◌<◌, ◌≤◌, ◌&&◌, nat_lt, nat_le, Bool, true}
+use Rattle.std.specs.Prelude.{List, Option, MatchOption}
 use Rattle.std.specs.List.{count_by}
 use Rattle.elf_object.specs.declared.place.RelaPlace.{RelaPlace}
 use Rattle.elf_object.specs.declared.overlap.Order.{Order}

@@ -1,6 +1,8 @@
 -- The places that relocations change, and the tests that they pass.
 -- gABI 4, "Relocation"; x86-64 psABI, "Relocation Types".
-use Rattle.std.specs.Prelude.{ℕ, ◌+◌, ◌*◌, ◌/◌, ◌%◌, ◌^◌, ◌==◌, ◌&&◌, ◌||◌, nat_lt, nat_le, not, Bool, false, if◌then◌else◌, List, [], ◌∷◌, length, map, Option, None, is_none, option_map, slice_get}
+use Rattle.std.specs.Prelude.{ℕ, ◌+◌, ◌*◌, ◌/◌, ◌%◌, ◌^◌, ◌==◌, ◌&&◌, ◌||◌, nat_lt, nat_le, not}
+use Rattle.std.specs.Prelude.{Bool, false, if◌then◌else◌, List, [], ◌∷◌, length, map, Option, None}
+use Rattle.std.specs.Prelude.{is_none, option_map, slice_get}
 use Rattle.std.specs.Int.{is_power_of_two}
 use Rattle.std.specs.List.{count_by, flat_map, position, range_with_len}
 use Rattle.std.specs.Option.{option_map_or}
@@ -14,7 +16,8 @@ use Rattle.elf_sections.specs.declared.section.Section.{Section}
 use Rattle.elf_object.specs.declared.symbol.Symbol.{Symbol}
 use Rattle.elf_object.specs.declared.place.RelaPlace.{RelaPlace}
 use Rattle.elf_object.specs.declared.fault.ObjectFault.{ObjectFault}
-use Rattle.elf_object.specs.declared.fault.ObjectFault.TheVariants.{BadAlign, BadRela, UnknownType, OverlappingPlaces}
+use Rattle.elf_object.specs.declared.fault.ObjectFault.TheVariants.{BadAlign, BadRela, UnknownType}
+use Rattle.elf_object.specs.declared.fault.ObjectFault.TheVariants.{OverlappingPlaces}
 use Rattle.elf_sections.specs.Shape.{contents, each, fault_if, section_count}
 use Rattle.elf_sections.specs.Sections.{section_of, sections_of}
 use Rattle.elf_object.specs.Symbols.{entries, symbols_of}
@@ -26,7 +29,8 @@ is_alignment align = nat_le align PAGE && (align == 0 || is_power_of_two align)
 
 -- The test of the alignment of the section i, if it is kept.
 unfoldable pub align_test : List ℕ → ℕ → Option ObjectFault
-align_test b i = fault_if ((section_of b i).kept && not (is_alignment (section_of b i).align)) (BadAlign i)
+align_test b i =
+    fault_if ((section_of b i).kept && not (is_alignment (section_of b i).align)) (BadAlign i)
 
 -- The relocation j of a section of these bytes, over the section `target`. gABI 4, "Relocation",
 -- Elf64_Rela.
@@ -51,7 +55,8 @@ place_width p = known_width p.kind
 -- with a reserved number.
 abbrev pub lies_unkept : List Section → Symbol → Bool
 lies_unkept sections s =
-    not (s.section == SHN_UNDEF) && option_map_or (λ t. not t.kept) (slice_get sections s.section) false
+    not (s.section == SHN_UNDEF)
+    && option_map_or (λ t. not t.kept) (slice_get sections s.section) false
 
 -- Whether the symbol k lies in a section that isn't kept.
 unfoldable pub is_unkept : List Section → List Symbol → ℕ → Bool
@@ -74,7 +79,8 @@ place_test count unkept room p =
     first (
     fault_if (nat_le count p.symbol) (BadRela p.section p.entry)
     ∷ fault_if (is_none (width p.kind)) (UnknownType p.section p.entry p.kind)
-    ∷ fault_if (not (p.kind == R_X86_64_NONE) && is_bad_place unkept room p) (BadRela p.section p.entry)
+    ∷ fault_if (not (p.kind == R_X86_64_NONE) && is_bad_place unkept room p)
+    (BadRela p.section p.entry)
     ∷ [])
 
 -- Whether the section i holds relocations of a section that is kept.
@@ -87,7 +93,8 @@ place_of b i j = place_in (contents b i) i (section_of b i).info j
 
 -- The places of the section i.
 unfoldable pub section_places : List ℕ → ℕ → List RelaPlace
-section_places b i = if is_applied b i then map (place_of b i) (range_with_len 0 (entries (contents b i))) else []
+section_places b i =
+    if is_applied b i then map (place_of b i) (range_with_len 0 (entries (contents b i))) else []
 
 -- The places of a file, by rising section, then by entry.
 unfoldable pub places_of : List ℕ → List RelaPlace
@@ -97,11 +104,13 @@ places_of b = flat_map (section_places b) (range_with_len 0 (section_count b))
 abbrev pub entry_test : List ℕ → ℕ → ℕ → Option ObjectFault
 entry_test b i j =
     let p = place_of b i j in
-    place_test (length (symbols_of b)) (is_unkept (sections_of b) (symbols_of b) p.symbol) (room_in (section_of b (section_of b i).info)) p
+    place_test (length (symbols_of b)) (is_unkept (sections_of b) (symbols_of b) p.symbol)
+    (room_in (section_of b (section_of b i).info)) p
 
 -- The tests of the places of the section i, by rising entry.
 unfoldable pub rela_test : List ℕ → ℕ → Option ObjectFault
-rela_test b i = if is_applied b i then first (each (entries (contents b i)) (entry_test b i)) else None
+rela_test b i =
+    if is_applied b i then first (each (entries (contents b i)) (entry_test b i)) else None
 
 -- Whether the place p changes the byte at x of the section `target`.
 unfoldable pub covers : ℕ → ℕ → RelaPlace → Bool
@@ -115,7 +124,8 @@ is_shared places target x = nat_lt 1 (count_by (covers target x) places)
 -- byte.
 unfoldable pub overlap_test : List ℕ → ℕ → Option ObjectFault
 overlap_test b i =
-    option_map (λ x. OverlappingPlaces i x) (position (is_shared (places_of b) i) (range_with_len 0 (section_of b i).size))
+    option_map (λ x. OverlappingPlaces i x)
+    (position (is_shared (places_of b) i) (range_with_len 0 (section_of b i).size))
 
 -- The tests of the alignments and of the places of a file, in order, each by rising section.
 unfoldable pub place_tests : List ℕ → List (Option ObjectFault)

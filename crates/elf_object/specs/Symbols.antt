@@ -1,24 +1,32 @@
 -- The symbols of an object file, and the tests that they pass. gABI 4, "Symbol Table".
-use Rattle.std.specs.Prelude.{ℕ, ◌+◌, ◌*◌, ◌/◌, ◌%◌, ◌==◌, ◌&&◌, ◌||◌, nat_lt, nat_le, not, Bool, true, false, if◌then◌else◌, List, [], ◌∷◌, length, slice_index, map, Option, None, is_none, unwrap_or}
+use Rattle.std.specs.Prelude.{ℕ, ◌+◌, ◌*◌, ◌/◌, ◌%◌, ◌==◌, ◌&&◌, ◌||◌, nat_lt, nat_le, not, Bool}
+use Rattle.std.specs.Prelude.{true, false, if◌then◌else◌, List, [], ◌∷◌, length, slice_index, map}
+use Rattle.std.specs.Prelude.{Option, None, is_none, unwrap_or}
 use Rattle.std.specs.List.{position, range_with_len}
 use Rattle.std.specs.Option.{option_map_or}
 use Rattle.km_names.specs.Number.{le}
 use Rattle.km_names.specs.First.{first}
 use Rattle.km_names.specs.Strings.{string_at}
-use Rattle.elf_format.specs.declared.section.TheConstants.{SHT_SYMTAB, SHT_STRTAB, SHT_RELA, SHT_REL}
-use Rattle.elf_format.specs.declared.symbol.TheConstants.{SHN_UNDEF, SHN_LORESERVE, SHN_ABS, SHN_COMMON, SHN_XINDEX, STB_LOCAL, STB_WEAK}
+use Rattle.elf_format.specs.declared.section.TheConstants.{SHT_SYMTAB, SHT_STRTAB, SHT_RELA}
+use Rattle.elf_format.specs.declared.section.TheConstants.{SHT_REL}
+use Rattle.elf_format.specs.declared.symbol.TheConstants.{SHN_UNDEF, SHN_LORESERVE, SHN_ABS}
+use Rattle.elf_format.specs.declared.symbol.TheConstants.{SHN_COMMON, SHN_XINDEX, STB_LOCAL}
+use Rattle.elf_format.specs.declared.symbol.TheConstants.{STB_WEAK}
 use Rattle.elf_object.specs.declared.symbol.Symbol.{Symbol}
 use Rattle.elf_object.specs.declared.symbol.SymbolEntry.{SymbolEntry}
 use Rattle.elf_object.specs.declared.symbol.SymbolRef.{SymbolRef}
 use Rattle.elf_object.specs.declared.fault.ObjectFault.{ObjectFault}
-use Rattle.elf_object.specs.declared.fault.ObjectFault.TheVariants.{Shape, RelSection, BadTable, ExtendedIndex, CommonSymbol, BadSymbol}
+use Rattle.elf_object.specs.declared.fault.ObjectFault.TheVariants.{Shape, RelSection, BadTable}
+use Rattle.elf_object.specs.declared.fault.ObjectFault.TheVariants.{ExtendedIndex, CommonSymbol}
+use Rattle.elf_object.specs.declared.fault.ObjectFault.TheVariants.{BadSymbol}
 use Rattle.elf_sections.specs.declared.fault.SectionFault.TheVariants.{BadString}
 use Rattle.elf_sections.specs.Shape.{each, contents, fault_if, section_count}
 use Rattle.elf_sections.specs.Sections.{entry_size, section_of}
 
 -- A symbol with a borrowed name, as one with a name of its own. gABI 4, "Symbol Table", Elf64_Sym.
 abbrev pub owned_symbol : SymbolRef → Symbol
-owned_symbol s = record { name = s.name.now; binding = s.binding; section = s.section; value = s.value }
+owned_symbol s =
+    record { name = s.name.now; binding = s.binding; section = s.section; value = s.value }
 
 -- The test that the section i holds no relocations without addends.
 unfoldable pub rel_test : List ℕ → ℕ → Option ObjectFault
@@ -26,7 +34,8 @@ rel_test b i = fault_if ((section_of b i).kind == SHT_REL) (RelSection i)
 
 -- The symbol table: the first section of that type.
 unfoldable pub symbol_table : List ℕ → Option ℕ
-symbol_table b = position (λ i. (section_of b i).kind == SHT_SYMTAB) (range_with_len 0 (section_count b))
+symbol_table b =
+    position (λ i. (section_of b i).kind == SHT_SYMTAB) (range_with_len 0 (section_count b))
 
 -- Whether the section i is the symbol table.
 unfoldable pub is_symbol_table : List ℕ → ℕ → Bool
@@ -47,7 +56,11 @@ unfoldable pub is_good_table : List ℕ → ℕ → Bool
 is_good_table b i =
     let s = section_of b i in
     if s.kind == SHT_SYMTAB then is_symbol_table b i && has_entries b i && is_string_table b s.link
-    else if s.kind == SHT_RELA then has_entries b i && is_symbol_table b s.link && nat_lt 0 s.info && nat_lt s.info (section_count b)
+    else if s.kind == SHT_RELA
+    then has_entries b i
+    && is_symbol_table b s.link
+    && nat_lt 0 s.info
+    && nat_lt s.info (section_count b)
     else true
 
 -- The test that the section i is valid if it is a table.
@@ -103,7 +116,12 @@ unfoldable pub symbol_in : List ℕ → List ℕ → ℕ → Symbol
 symbol_in table names j =
     let e = symbol_entry table j in
     if j == 0 then record { name = []; binding = 0; section = 0; value = 0 }
-    else record { name = unwrap_or (string_at names e.name) []; binding = binding e; section = e.section; value = e.value }
+    else record {
+      name = unwrap_or (string_at names e.name) [];
+      binding = binding e;
+      section = e.section;
+      value = e.value;
+    }
 
 -- The number of entries of 24 bytes in a table of these bytes.
 abbrev pub entries : List ℕ → ℕ

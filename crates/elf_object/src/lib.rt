@@ -10,9 +10,9 @@
 //! A file may come from anywhere, and names may share their bytes in it, as may tables of
 //! relocations. So what may overlap is added up before it is kept. The names of the sections have
 //! at most [`NAME_LIMIT`] bytes together, and so have the names of the symbols. The tables have no
-//! more than four times as many as a file may have. Otherwise the answer is out of memory, before more than that was
-//! searched or copied. Time is linear in the file and those bytes, except for sorting places that
-//! aren't in order.
+//! more than four times as many as a file may have. Otherwise the answer is out of memory, before
+//! more than that was searched or copied. Time is linear in the file and those bytes, except for
+//! sorting places that aren't in order.
 //!
 //! An `ObjectView` shows a file that passed the same tests to readers that don't load it: names
 //! stay in the file, and the places are tested and not kept.

@@ -3,7 +3,8 @@
 ghost use Rattle.std.specs.Prelude.{◌≡◌, [], ◌∷◌, ◌++◌, All, IfOk, List, MatchOption, ℕ};
 ghost use Rattle.std.specs.List.Sorted.{IsNonDecreasingBy};
 ghost use Rattle.elf_object.specs.Places.{place_width};
-ghost use Rattle.elf_object.specs.Overlap.{IsLeastShared, IsLong, IsNear, IsOrderOf, IsSpanOf, count_at, place_end, place_start, span_end, span_start};
+ghost use Rattle.elf_object.specs.Overlap.{IsLeastShared, IsLong, IsNear, IsOrderOf, IsSpanOf};
+ghost use Rattle.elf_object.specs.Overlap.{count_at, place_end, place_start, span_end, span_start};
 ghost use Rattle.elf_object.specs.declared.place.RelaPlace.{RelaPlace};
 
 use crate::RelaPlace;

@@ -1,11 +1,13 @@
 // One place that a relocation changes.
 
-ghost use Rattle.std.specs.Prelude.{◌≡◌, ◌+◌, ◌*◌, ◌<◌, ◌≤◌, false, get_or, length, map, IfOk, Some};
+ghost use Rattle.std.specs.Prelude.{◌≡◌, ◌+◌, ◌*◌, ◌<◌, ◌≤◌, false, get_or, length, map, IfOk};
+ghost use Rattle.std.specs.Prelude.{Some};
 ghost use Rattle.std.specs.Result.{result_err};
 ghost use Rattle.km_names.specs.Number.{signed};
 ghost use Rattle.elf_format.specs.Relocation.{width};
 ghost use Rattle.elf_object.specs.Inner.{unkept_flags};
-ghost use Rattle.elf_object.specs.Places.{is_bad_place, lies_unkept, place_in, place_test, place_width, room_in};
+ghost use Rattle.elf_object.specs.Places.{is_bad_place, lies_unkept, place_in, place_test};
+ghost use Rattle.elf_object.specs.Places.{place_width, room_in};
 ghost use Rattle.elf_sections.specs.Sections.{owned_section};
 ghost use Rattle.elf_object.specs.Symbols.{owned_symbol};
 
@@ -77,7 +79,9 @@ pub(crate) fn unkept_symbols(
     sections: &[SectionRef],
     symbols: &[SymbolRef],
 ) -> Result<Vec<bool>, AllocError>
-    ensures { IfOk result (λ flags. flags.items ≡ unkept_flags (map owned_section sections.now) (map owned_symbol symbols.now)) }
+    ensures { IfOk result
+        (λ flags. flags.items
+        ≡ unkept_flags (map owned_section sections.now) (map owned_symbol symbols.now)) }
 {
     let mut flags = Vec::with_capacity(alloc, symbols.len())?;
     for symbol in symbols {

@@ -1,6 +1,7 @@
 // The places of an object file, and the tests of its sections' alignments.
 
-ghost use Rattle.std.specs.Prelude.{◌≡◌, ◌<◌, ◌≤◌, ◌⊎◌, ◌++◌, [], length, List, None, Some, IfOk, IfErr, OnOk};
+ghost use Rattle.std.specs.Prelude.{◌≡◌, ◌<◌, ◌≤◌, ◌⊎◌, ◌++◌, [], length, List, None, Some, IfOk};
+ghost use Rattle.std.specs.Prelude.{IfErr, OnOk};
 ghost use Rattle.std.specs.Result.{result_err};
 ghost use Rattle.km_names.specs.Limit.{file_limit};
 ghost use Rattle.km_names.specs.First.{first};
@@ -8,7 +9,8 @@ ghost use Rattle.elf_sections.specs.Shape.{each, section_count};
 ghost use Rattle.elf_object.specs.declared.place.RelaPlace.{RelaPlace};
 ghost use Rattle.elf_sections.specs.Sections.{IsRead, sections_of};
 ghost use Rattle.elf_object.specs.Symbols.{symbols_of};
-ghost use Rattle.elf_object.specs.Places.{align_test, is_alignment, is_applied, overlap_test, place_tests, places_of, rela_test, section_places};
+ghost use Rattle.elf_object.specs.Places.{align_test, is_alignment, is_applied, overlap_test};
+ghost use Rattle.elf_object.specs.Places.{place_tests, places_of, rela_test, section_places};
 ghost use Rattle.elf_object.specs.Inner.{HasMet, TablesFit, unkept_flags};
 ghost use Rattle.elf_object.specs.Overlap.{IsOrderOf};
 
@@ -93,7 +95,8 @@ fn meet_section_places(
     requires read { IsRead sections.now.file sections.now.list }
     requires fit { TablesFit sections.now.file }
     requires index { index < length sections.now.list }
-    requires unkept { unkept.now ≡ unkept_flags (sections_of sections.now.file) (symbols_of sections.now.file) }
+    requires unkept { unkept.now
+        ≡ unkept_flags (sections_of sections.now.file) (symbols_of sections.now.file) }
     ensures met { OnOk result ((before : List RelaPlace) → HasMet met.old before
         → HasMet met.new (before ++ section_places sections.now.file index)) }
     ensures keeps { OnOk result (met.new.keeps ≡ met.old.keeps) }
@@ -124,7 +127,8 @@ fn meet_places(
     requires small { length sections.now.file ≤ file_limit }
     requires read { IsRead sections.now.file sections.now.list }
     requires fit { TablesFit sections.now.file }
-    requires unkept { unkept.now ≡ unkept_flags (sections_of sections.now.file) (symbols_of sections.now.file) }
+    requires unkept { unkept.now
+        ≡ unkept_flags (sections_of sections.now.file) (symbols_of sections.now.file) }
     requires none { HasMet met.old [] }
     ensures met { OnOk result (HasMet met.new (places_of sections.now.file)) }
     ensures keeps { OnOk result (met.new.keeps ≡ met.old.keeps) }
@@ -158,7 +162,8 @@ fn check_overlaps(
         (first (each (section_count sections.now.file) (overlap_test sections.now.file)) ≡ None) }
     ensures fault { IfErr result
         (λ e. (e ≡ ObjectFault.Memory)
-        ⊎ (first (each (section_count sections.now.file) (overlap_test sections.now.file)) ≡ Some e)) }
+        ⊎
+        (first (each (section_count sections.now.file) (overlap_test sections.now.file)) ≡ Some e)) }
 {
     match find_shared(alloc, places, order)? {
         None => Ok(()),
@@ -179,7 +184,8 @@ pub(crate) fn read_places(
     requires small { length sections.now.file ≤ file_limit }
     requires read { IsRead sections.now.file sections.now.list }
     requires fit { TablesFit sections.now.file }
-    requires unkept { unkept.now ≡ unkept_flags (sections_of sections.now.file) (symbols_of sections.now.file) }
+    requires unkept { unkept.now
+        ≡ unkept_flags (sections_of sections.now.file) (symbols_of sections.now.file) }
     ensures places { IfOk result (λ l. l ≡ places_of sections.now.file) }
     ensures passed { OnOk result (first (place_tests sections.now.file) ≡ None) }
     ensures fault { IfErr result
@@ -203,7 +209,8 @@ pub(crate) fn check_places(
     requires small { length sections.now.file ≤ file_limit }
     requires read { IsRead sections.now.file sections.now.list }
     requires fit { TablesFit sections.now.file }
-    requires unkept { unkept.now ≡ unkept_flags (sections_of sections.now.file) (symbols_of sections.now.file) }
+    requires unkept { unkept.now
+        ≡ unkept_flags (sections_of sections.now.file) (symbols_of sections.now.file) }
     ensures passed { OnOk result (first (place_tests sections.now.file) ≡ None) }
     ensures fault { IfErr result
         (λ e. (e ≡ ObjectFault.Memory) ⊎ (first (place_tests sections.now.file) ≡ Some e)) }

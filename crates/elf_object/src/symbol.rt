@@ -1,11 +1,13 @@
 // One symbol, and the symbol table.
 
-ghost use Rattle.std.specs.Prelude.{◌≡◌, ◌+◌, ◌*◌, ◌≤◌, ◌⊎◌, length, map, None, Some, IfOk, IfErr, OnOk};
+ghost use Rattle.std.specs.Prelude.{◌≡◌, ◌+◌, ◌*◌, ◌≤◌, ◌⊎◌, length, map, None, Some, IfOk, IfErr};
+ghost use Rattle.std.specs.Prelude.{OnOk};
 ghost use Rattle.std.specs.Result.{result_err};
 ghost use Rattle.km_names.specs.Limit.{file_limit};
 ghost use Rattle.km_names.specs.First.{first};
 ghost use Rattle.elf_sections.specs.Shape.{each};
-ghost use Rattle.elf_object.specs.Symbols.{entries, is_bad_symbol, kind_test, owned_symbol, symbol_entry, symbol_in, symbol_test_in, symbols_in};
+ghost use Rattle.elf_object.specs.Symbols.{entries, is_bad_symbol, kind_test, owned_symbol};
+ghost use Rattle.elf_object.specs.Symbols.{symbol_entry, symbol_in, symbol_test_in, symbols_in};
 
 use crate::ObjectFault;
 use elf_format::{

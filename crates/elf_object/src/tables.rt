@@ -7,7 +7,10 @@ ghost use Rattle.km_names.specs.Limit.{file_limit};
 ghost use Rattle.elf_sections.specs.Shape.{each, section_count};
 ghost use Rattle.elf_object.specs.Inner.{TablesFit};
 ghost use Rattle.elf_sections.specs.Sections.{IsRead};
-ghost use Rattle.elf_object.specs.Symbols.{has_entries, is_good_table, is_string_table, is_symbol_table, owned_symbol, rel_test, symbol_bytes, symbol_names, symbol_table, symbol_tests, symbols_of, table_test};
+ghost use Rattle.elf_object.specs.Symbols.{has_entries, is_good_table, is_string_table};
+ghost use Rattle.elf_object.specs.Symbols.{is_symbol_table, owned_symbol, rel_test, symbol_bytes};
+ghost use Rattle.elf_object.specs.Symbols.{symbol_names, symbol_table, symbol_tests, symbols_of};
+ghost use Rattle.elf_object.specs.Symbols.{table_test};
 
 use crate::symbol::read_symbols;
 use crate::{ObjectFault, SymbolRef};

@@ -1,6 +1,7 @@
 // An object file whose names stay in place.
 
-ghost use Rattle.std.specs.Prelude.{◌≡◌, ◌<◌, ◌≤◌, ◌⊎◌, length, map, None, Some, IfOk, IfErr, IfSome, OnOk, slice_get};
+ghost use Rattle.std.specs.Prelude.{◌≡◌, ◌<◌, ◌≤◌, ◌⊎◌, length, map, None, Some, IfOk, IfErr};
+ghost use Rattle.std.specs.Prelude.{IfSome, OnOk, slice_get};
 ghost use Rattle.std.specs.List.{position};
 ghost use Rattle.std.specs.Str.{bytes_eq};
 ghost use Rattle.km_names.specs.Limit.{file_limit};
@@ -37,7 +38,8 @@ impl<'a> Model for ObjectView<'a> {
       places = places_of v.table.file;
     } };
 
-    ghost invariant = { λ v. IsObject v.table (map owned_symbol v.symbols) (places_of v.table.file) };
+    ghost invariant = { λ v. IsObject v.table (map owned_symbol v.symbols)
+        (places_of v.table.file) };
 }
 
 impl<'a> ObjectView<'a> {

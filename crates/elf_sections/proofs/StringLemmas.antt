@@ -1,8 +1,10 @@
 -- Strings of a table that was cut off.
-use Rattle.std.proofs.Common.{◌≡◌, ℕ, ◌+◌, ◌-◌, ◌<◌, ◌≤◌, ◌==◌, Bool, false, List, [], length, take, drop, get_or, Option, Some, None, inl, inr, refl, sym, ◌∙◌, arith}
+use Rattle.std.proofs.Common.{◌≡◌, ℕ, ◌+◌, ◌-◌, ◌<◌, ◌≤◌, ◌==◌, Bool, false, List, [], length, take}
+use Rattle.std.proofs.Common.{drop, get_or, Option, Some, None, inl, inr, refl, sym, ◌∙◌, arith}
 use Rattle.std.specs.List.{position, position_or_len}
 use Rattle.std.proofs.lemmas.Bool.{cases_lt, lt-ltb}
-use Rattle.std.proofs.lemmas.List.{drop-take, drop_all, get_or-drop, get_or-take, length-drop, length-take, take-append-drop, take-append-le}
+use Rattle.std.proofs.lemmas.List.{drop-take, drop_all, get_or-drop, get_or-take, length-drop}
+use Rattle.std.proofs.lemmas.List.{length-take, take-append-drop, take-append-le}
 use Rattle.std.proofs.lemmas.List.Quantifiers.{position-Some}
 use Rattle.std.proofs.lemmas.List.Sums.{fails_before_first}
 use Rattle.km_names.specs.Strings.{first_string, string_at}
@@ -13,9 +15,11 @@ abbrev is_nul : ℕ → Bool
 is_nul b = b == 0
 
 -- a list that passes nowhere
-pub position-nowhere_is : {X : Type 0} (p : X → Bool) (xs : List X) (k : ℕ) (d : X) → position p xs ≡ None → k < length xs → p (get_or xs k d) ≡ false
+pub position-nowhere_is : {X : Type 0} (p : X → Bool) (xs : List X) (k : ℕ) (d : X)
+    → position p xs ≡ None → k < length xs → p (get_or xs k d) ≡ false
 position-nowhere_is p xs k d none less = elim (cases_lt (position_or_len p xs) (length xs)) [
-  | inl within ↦ let some : Some (position_or_len p xs) ≡ None = rw (lt-ltb (position_or_len p xs) (length xs) within) at none in absurd (cc)
+  | inl within ↦ let some : Some (position_or_len p xs) ≡ None
+      = rw (lt-ltb (position_or_len p xs) (length xs) within) at none in absurd (cc)
   | inr past ↦ fails_before_first p xs k d (omega arith)
 ]
 
@@ -54,18 +58,25 @@ IsFront-cut table n at = elim (cases_lt n at) [
       rw (sum, drop-take at (n - at) table) (IsFront-take (n - at) (drop at table))
 ]
 
-first_string-front_at : (front whole : List ℕ) (o : Option ℕ) → position is_nul front ≡ o → IsFront front whole → (s : List ℕ) → first_string front ≡ Some s → first_string whole ≡ Some s
+first_string-front_at : (front whole : List ℕ) (o : Option ℕ) → position is_nul front ≡ o
+    → IsFront front whole → (s : List ℕ) → first_string front ≡ Some s → first_string whole ≡ Some s
 unfolding first_string
 first_string-front_at front whole None is cut s found =
     let none : None ≡ Some s = rw is at found in absurd (cc)
 first_string-front_at front whole (Some i) is cut s found =
     let at = position-Some is_nul front i 0 is in
     let short = cut.short in
-    let same = position-found is_nul whole i 0 (omega (arith, at.0)) (λ k less. rw (← cut.same k (omega (arith, at.0))) (at.2 k less)) (rw (← cut.same i at.0) at.1) in
+    let same
+    = position-found is_nul whole i 0 (omega (arith, at.0))
+    (λ k less. rw (← cut.same k (omega (arith, at.0))) (at.2 k less))
+    (rw (← cut.same i at.0) at.1) in
     let taken = cut.takes i (omega (arith, at.0)) in
     rw (same, ← taken) (rw is at found)
 
-first_string-same_at : (front whole : List ℕ) (o : Option ℕ) → position is_nul front ≡ o → IsFront front whole → ((k : ℕ) → length front ≤ k → k < length whole → is_nul (get_or whole k 0) ≡ false) → first_string front ≡ first_string whole
+first_string-same_at : (front whole : List ℕ) (o : Option ℕ) → position is_nul front ≡ o
+    → IsFront front whole
+    → ((k : ℕ) → length front ≤ k → k < length whole → is_nul (get_or whole k 0) ≡ false)
+    → first_string front ≡ first_string whole
 unfolding first_string
 first_string-same_at front whole (Some i) is cut past =
     let found : first_string front ≡ Some (take i front) = rw is refl in
@@ -78,19 +89,26 @@ first_string-same_at front whole None is cut past =
     rw (is, none) refl
 
 -- a string of a table that was cut off is one of the whole table
-pub string_at-cut : (table : List ℕ) (n at : ℕ) (s : List ℕ) → string_at (take n table) at ≡ Some s → string_at table at ≡ Some s
+pub string_at-cut : (table : List ℕ) (n at : ℕ) (s : List ℕ) → string_at (take n table) at ≡ Some s
+    → string_at table at ≡ Some s
 string_at-cut table n at s found =
-    first_string-front_at (drop at (take n table)) (drop at table) (position is_nul (drop at (take n table))) refl (IsFront-cut table n at) s found
+    first_string-front_at (drop at (take n table)) (drop at table)
+    (position is_nul (drop at (take n table))) refl (IsFront-cut table n at) s found
 
 -- a table that was cut off after its last NUL has the same strings
-pub string_at-same : (table : List ℕ) (n : ℕ) → ((k : ℕ) → n ≤ k → k < length table → is_nul (get_or table k 0) ≡ false) → (at : ℕ) → string_at (take n table) at ≡ string_at table at
+pub string_at-same : (table : List ℕ) (n : ℕ)
+    → ((k : ℕ) → n ≤ k → k < length table → is_nul (get_or table k 0) ≡ false) → (at : ℕ)
+    → string_at (take n table) at ≡ string_at table at
 string_at-same table n past at =
     let size = length-take n table in
     let front = length-drop at (take n table) in
     let whole = length-drop at table in
-    first_string-same_at (drop at (take n table)) (drop at table) (position is_nul (drop at (take n table))) refl (IsFront-cut table n at)
+    first_string-same_at (drop at (take n table)) (drop at table)
+    (position is_nul (drop at (take n table))) refl (IsFront-cut table n at)
     (λ k after less. rw (get_or-drop at table k 0) (past (at + k) (omega arith) (omega arith)))
 
 -- what is said of a string of a table under another that has the same strings
-pub HasStrings-cut : (table : List ℕ) (n : ℕ) → ((k : ℕ) → n ≤ k → k < length table → is_nul (get_or table k 0) ≡ false) → HasStrings table (take n table)
+pub HasStrings-cut : (table : List ℕ) (n : ℕ)
+    → ((k : ℕ) → n ≤ k → k < length table → is_nul (get_or table k 0) ≡ false)
+    → HasStrings table (take n table)
 HasStrings-cut table n past = record { strings = string_at-same table n past }

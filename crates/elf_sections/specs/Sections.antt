@@ -3,7 +3,8 @@ use Rattle.std.specs.Prelude.{◌≡◌, ℕ, List, map, None}
 use Rattle.std.specs.List.{range_with_len}
 use Rattle.elf_sections.specs.declared.section.Section.{Section}
 use Rattle.elf_sections.specs.declared.section.SectionRef.{SectionRef}
-use Rattle.elf_sections.specs.Shape.{AllInFile, HasTable, content, is_kept, name_in, name_table, section_count, section_header, shape_fault, contents}
+use Rattle.elf_sections.specs.Shape.{AllInFile, HasTable, content, is_kept, name_in, name_table}
+use Rattle.elf_sections.specs.Shape.{section_count, section_header, shape_fault, contents}
 
 -- A section with a borrowed name, as one with a name of its own. gABI 4, "Sections", Elf64_Shdr.
 abbrev pub owned_section : SectionRef → Section

@@ -1,16 +1,22 @@
 -- The sections of an object file, and the tests that a file with sections passes.
 -- gABI 4, "Object Files": "ELF Header", "Sections", "String Table".
-use Rattle.std.specs.Prelude.{ℕ, ◌+◌, ◌*◌, ◌<◌, ◌≤◌, ◌==◌, ◌&&◌, ◌||◌, nat_eq, nat_lt, not, Bool, IsTrue, if◌then◌else◌, List, [], ◌∷◌, ◌++◌, length, slice_index, take, drop, map, codes, bit_and, Option, Some, None, is_none, unwrap_or}
+use Rattle.std.specs.Prelude.{ℕ, ◌+◌, ◌*◌, ◌<◌, ◌≤◌, ◌==◌, ◌&&◌, ◌||◌, nat_eq, nat_lt, not, Bool}
+use Rattle.std.specs.Prelude.{IsTrue, if◌then◌else◌, List, [], ◌∷◌, ◌++◌, length, slice_index, take}
+use Rattle.std.specs.Prelude.{drop, map, codes, bit_and, Option, Some, None, is_none, unwrap_or}
 use Rattle.std.specs.List.{range_with_len, starts_with}
 use Rattle.std.specs.Str.{bytes_eq}
 use Rattle.km_names.specs.Number.{le}
 use Rattle.km_names.specs.First.{first}
 use Rattle.km_names.specs.Strings.{string_at}
 use Rattle.elf_format.specs.declared.file_header.TheConstants.{EM_X86_64, ET_REL}
-use Rattle.elf_format.specs.declared.section.TheConstants.{SHT_NULL, SHT_STRTAB, SHT_NOBITS, SHF_ALLOC}
+use Rattle.elf_format.specs.declared.section.TheConstants.{SHT_NULL, SHT_STRTAB, SHT_NOBITS}
+use Rattle.elf_format.specs.declared.section.TheConstants.{SHF_ALLOC}
 use Rattle.elf_sections.specs.declared.header.SectionHeader.{SectionHeader}
 use Rattle.elf_sections.specs.declared.fault.SectionFault.{SectionFault}
-use Rattle.elf_sections.specs.declared.fault.SectionFault.TheVariants.{NotElf, Truncated, WrongClass, WrongMachine, NotRelocatable, BadSection, BadString}
+use Rattle.elf_sections.specs.declared.fault.SectionFault.TheVariants.{NotElf, Truncated}
+use Rattle.elf_sections.specs.declared.fault.SectionFault.TheVariants.{WrongClass, WrongMachine}
+use Rattle.elf_sections.specs.declared.fault.SectionFault.TheVariants.{NotRelocatable, BadSection}
+use Rattle.elf_sections.specs.declared.fault.SectionFault.TheVariants.{BadString}
 
 -- A test that fails with this fault if the condition holds.
 abbrev pub fault_if : {F : Type 0} → Bool → F → Option F
@@ -42,7 +48,10 @@ is_class b = slice_index b 4 == 2 && slice_index b 5 == 1 && slice_index b 6 == 
 -- 4, "ELF Header", e_shentsize.
 unfoldable pub is_table : List ℕ → Bool
 is_table b =
-    le b 58 2 == 64 && nat_lt 0 (section_count b) && nat_lt (section_count b) 0xff00 && nat_lt 0 (name_table b)
+    le b 58 2 == 64
+    && nat_lt 0 (section_count b)
+    && nat_lt (section_count b) 0xff00
+    && nat_lt 0 (name_table b)
     && nat_lt (name_table b) (section_count b)
 
 -- The file has its header and the section header table.
@@ -95,17 +104,21 @@ name_in names kind at = if kind == SHT_NULL then [] else unwrap_or (string_at na
 -- scripts/mod/modpost.c.
 unfoldable pub is_for_loading : List ℕ → Bool
 is_for_loading name =
-    bytes_eq name (codes ".modinfo") || bytes_eq name (codes "__versions") || bytes_eq name (codes "__version_ext_crcs")
+    bytes_eq name (codes ".modinfo")
+    || bytes_eq name (codes "__versions")
+    || bytes_eq name (codes "__version_ext_crcs")
     || bytes_eq name (codes "__version_ext_names")
 
 -- Whether a section is kept in memory: it is one, has the flag ALLOC, and isn't only for loading.
 -- gABI 4, "Sections", sh_flags.
 unfoldable pub is_kept : ℕ → ℕ → List ℕ → Bool
-is_kept kind flags name = not (kind == SHT_NULL) && not (bit_and flags SHF_ALLOC == 0) && not (is_for_loading name)
+is_kept kind flags name =
+    not (kind == SHT_NULL) && not (bit_and flags SHF_ALLOC == 0) && not (is_for_loading name)
 
 -- The bytes of the section i.
 abbrev pub contents : List ℕ → ℕ → List ℕ
-contents b i = content b (section_header b i).kind (section_header b i).offset (section_header b i).size
+contents b i =
+    content b (section_header b i).kind (section_header b i).offset (section_header b i).size
 
 -- The tests of the file header.
 unfoldable pub header_tests : List ℕ → List (Option SectionFault)
@@ -116,7 +129,8 @@ header_tests b =
     ∷ fault_if (not (le b 18 2 == EM_X86_64)) WrongMachine
     ∷ fault_if (not (le b 16 2 == ET_REL)) NotRelocatable
     ∷ fault_if (not (is_table b)) (BadSection 0)
-    ∷ fault_if (nat_lt (length b) (table_place b + 64 * section_count b)) (Truncated (table_place b) (64 * section_count b))
+    ∷ fault_if (nat_lt (length b) (table_place b + 64 * section_count b))
+    (Truncated (table_place b) (64 * section_count b))
     ∷ []
 
 -- The test that the section i lies in the file, and that the first section is of type NULL.
@@ -125,25 +139,31 @@ content_test b i =
     let h = section_header b i in
     first (
     fault_if (i == 0 && not (h.kind == SHT_NULL)) (BadSection 0)
-    ∷ fault_if (has_content h.kind && nat_lt (length b) (h.offset + h.size)) (Truncated h.offset h.size)
+    ∷ fault_if (has_content h.kind && nat_lt (length b) (h.offset + h.size))
+    (Truncated h.offset h.size)
     ∷ [])
 
 -- The test that the section with the names is a string table.
 unfoldable pub name_table_test : List ℕ → Option SectionFault
-name_table_test b = fault_if (not ((section_header b (name_table b)).kind == SHT_STRTAB)) (BadSection (name_table b))
+name_table_test b =
+    fault_if (not ((section_header b (name_table b)).kind == SHT_STRTAB))
+    (BadSection (name_table b))
 
 -- The test that a section of this type, if it is one, has its name in the table of names.
 unfoldable pub name_test_in : List ℕ → ℕ → ℕ → Option SectionFault
-name_test_in names kind at = fault_if (not (kind == SHT_NULL) && is_none (string_at names at)) (BadString at)
+name_test_in names kind at =
+    fault_if (not (kind == SHT_NULL) && is_none (string_at names at)) (BadString at)
 
 -- The test that the section i, if it is one, has its name in the table of names.
 abbrev pub name_test : List ℕ → ℕ → Option SectionFault
-name_test b i = name_test_in (contents b (name_table b)) (section_header b i).kind (section_header b i).name
+name_test b i =
+    name_test_in (contents b (name_table b)) (section_header b i).kind (section_header b i).name
 
 -- The tests that a file with sections passes, in order.
 unfoldable pub shape_tests : List ℕ → List (Option SectionFault)
 shape_tests b =
-    header_tests b ++ each (section_count b) (content_test b) ++ name_table_test b ∷ each (section_count b) (name_test b)
+    header_tests b ++ each (section_count b) (content_test b) ++ name_table_test b
+    ∷ each (section_count b) (name_test b)
 
 -- The fault of the sections of a file: the first test that fails.
 unfoldable pub shape_fault : List ℕ → Option SectionFault

@@ -3,7 +3,8 @@
 ghost use Rattle.std.specs.Prelude.{◌≡◌, ◌+◌, ◌<◌, ◌≤◌, length, nat_le, OnOk};
 ghost use Rattle.std.specs.Result.{result_err};
 ghost use Rattle.km_names.specs.First.{first};
-ghost use Rattle.elf_sections.specs.Shape.{HasTable, header_tests, is_class, is_table, name_table, section_count, section_header, table_place};
+ghost use Rattle.elf_sections.specs.Shape.{HasTable, header_tests, is_class, is_table, name_table};
+ghost use Rattle.elf_sections.specs.Shape.{section_count, section_header, table_place};
 
 use crate::SectionFault;
 use elf_format::{

@@ -1,7 +1,8 @@
 // One section.
 
 ghost use Rattle.std.specs.Prelude.{◌≡◌, ◌<◌, ◌≤◌, ◌⊎◌, None, Some, IfErr, IfOk, OnOk};
-ghost use Rattle.elf_sections.specs.Shape.{HasTable, contents, is_for_loading, is_kept, name_in, name_table, name_test_in, section_count};
+ghost use Rattle.elf_sections.specs.Shape.{HasTable, contents, is_for_loading, is_kept, name_in};
+ghost use Rattle.elf_sections.specs.Shape.{name_table, name_test_in, section_count};
 ghost use Rattle.elf_sections.specs.Sections.{owned_section, section_of};
 ghost use Rattle.elf_sections.specs.Strings.{HasStrings};
 

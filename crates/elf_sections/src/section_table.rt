@@ -1,6 +1,7 @@
 // The sections of a file that is read in place.
 
-ghost use Rattle.std.specs.Prelude.{◌≡◌, ◌+◌, ◌<◌, ◌≤◌, ◌⊎◌, length, map, Some, IfErr, IfOk, IfSome, IsTrue, OnOk, slice_get};
+ghost use Rattle.std.specs.Prelude.{◌≡◌, ◌+◌, ◌<◌, ◌≤◌, ◌⊎◌, length, map, Some, IfErr, IfOk};
+ghost use Rattle.std.specs.Prelude.{IfSome, IsTrue, OnOk, slice_get};
 ghost use Rattle.std.specs.List.{position};
 ghost use Rattle.std.specs.Str.{bytes_eq};
 ghost use Rattle.elf_sections.specs.Shape.{contents, has_content, section_count, shape_fault};
@@ -31,7 +32,8 @@ impl<'a> Model for SectionTable<'a> {
 }
 
 impl<'a> SectionTable<'a> {
-    ghost use Rattle.elf_sections.specs.Sections.{IsRead, bytes_of, entry_size, file_sections, owned_section, section_of, sections_of};
+    ghost use Rattle.elf_sections.specs.Sections.{IsRead, bytes_of, entry_size, file_sections};
+    ghost use Rattle.elf_sections.specs.Sections.{owned_section, section_of, sections_of};
     ghost use Rattle.elf_format.specs.declared.symbol.TheConstants.{SHN_LORESERVE};
 
     /// Reads the sections of a file, with their names in place.

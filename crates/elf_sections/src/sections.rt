@@ -1,6 +1,7 @@
 // The sections of a file, with its bytes.
 
-ghost use Rattle.std.specs.Prelude.{◌≡◌, ◌+◌, ◌<◌, ◌≤◌, ◌⊎◌, length, None, Some, IfOk, IfErr, IfSome, IsTrue, OnOk, slice_get};
+ghost use Rattle.std.specs.Prelude.{◌≡◌, ◌+◌, ◌<◌, ◌≤◌, ◌⊎◌, length, None, Some, IfOk, IfErr};
+ghost use Rattle.std.specs.Prelude.{IfSome, IsTrue, OnOk, slice_get};
 ghost use Rattle.std.specs.List.{position};
 ghost use Rattle.std.specs.Str.{bytes_eq};
 ghost use Rattle.elf_sections.specs.Sections.{IsRead};
@@ -31,7 +32,8 @@ impl Model for Sections {
 }
 
 impl Sections {
-    ghost use Rattle.elf_sections.specs.Sections.{IsRead, bytes_of, file_sections, section_of, sections_of};
+    ghost use Rattle.elf_sections.specs.Sections.{IsRead, bytes_of, file_sections, section_of};
+    ghost use Rattle.elf_sections.specs.Sections.{sections_of};
     ghost use Rattle.elf_format.specs.declared.symbol.TheConstants.{SHN_LORESERVE};
 
     /// Reads the sections of a file, and keeps its bytes. After a refusal the bytes are dropped.

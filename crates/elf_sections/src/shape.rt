@@ -1,9 +1,13 @@
 // The sections of a file, and the tests that they pass.
 
-ghost use Rattle.std.specs.Prelude.{◌≡◌, ◌+◌, ◌<◌, ◌≤◌, ◌⊎◌, length, None, Some, IsTrue, OnOk, IfOk, IfErr};
+ghost use Rattle.std.specs.Prelude.{◌≡◌, ◌+◌, ◌<◌, ◌≤◌, ◌⊎◌, length, None, Some, IsTrue, OnOk};
+ghost use Rattle.std.specs.Prelude.{IfOk, IfErr};
 ghost use Rattle.std.specs.Result.{result_err};
 ghost use Rattle.km_names.specs.First.{first};
-ghost use Rattle.elf_sections.specs.Shape.{AllInFile, HasTable, IsInFile, content, each, has_content, name_table, name_table_test, name_test, content_test, section_count, section_header, shape_fault, contents};
+ghost use Rattle.elf_sections.specs.Shape.{AllInFile, HasTable, IsInFile, content, each};
+ghost use Rattle.elf_sections.specs.Shape.{has_content, name_table, name_table_test, name_test};
+ghost use Rattle.elf_sections.specs.Shape.{content_test, section_count, section_header};
+ghost use Rattle.elf_sections.specs.Shape.{shape_fault, contents};
 ghost use Rattle.elf_sections.specs.Sections.{IsRead, file_sections, sections_of};
 ghost use Rattle.elf_sections.specs.Strings.{HasStrings};
 

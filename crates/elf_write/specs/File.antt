@@ -1,6 +1,8 @@
 -- An object file of sections. gABI 4, "ELF Header", "Sections".
 use Rattle.std.specs.Prelude.{ℕ, ◌+◌, ◌-◌, ◌%◌, List, [], ◌∷◌, ◌++◌, length, fold}
-use Rattle.elf_format.specs.declared.file_header.TheConstants.{ELFCLASS64, ELFDATA2LSB, EV_CURRENT, ET_REL, EM_X86_64, EHDR_SIZE, SHDR_SIZE}
+use Rattle.elf_format.specs.declared.file_header.TheConstants.{ELFCLASS64, ELFDATA2LSB, EV_CURRENT}
+use Rattle.elf_format.specs.declared.file_header.TheConstants.{ET_REL, EM_X86_64, EHDR_SIZE}
+use Rattle.elf_format.specs.declared.file_header.TheConstants.{SHDR_SIZE}
 use Rattle.elf_write.specs.declared.part.Attributes.{Attributes}
 use Rattle.elf_write.specs.declared.part.Part.{Part}
 use Rattle.elf_write.specs.Number.{half, word, xword, zeros, with_nul}
@@ -44,7 +46,9 @@ with_part l p =
     let at = EHDR_SIZE + length l.contents in
     record {
       contents = l.contents ++ zeros (gap at) ++ p.content;
-      headers = l.headers ++ section_header (length l.names) p.attributes (at + gap at) (length p.content);
+      headers
+          = l.headers
+          ++ section_header (length l.names) p.attributes (at + gap at) (length p.content);
       names = l.names ++ with_nul p.name;
     }
 

@@ -2,7 +2,9 @@
 -- "Sections", "Symbol Table", "Relocation".
 use Rattle.std.specs.Prelude.{ℕ, ◌+◌, ◌*◌, List, [], ◌∷◌, ◌++◌, length, take, codes}
 use Rattle.std.specs.List.{flat_map, range_with_len}
-use Rattle.elf_format.specs.declared.section.TheConstants.{SHT_PROGBITS, SHT_RELA, SHT_SYMTAB, SHT_STRTAB, SHF_WRITE, SHF_ALLOC, SHF_INFO_LINK}
+use Rattle.elf_format.specs.declared.section.TheConstants.{SHT_PROGBITS, SHT_RELA, SHT_SYMTAB}
+use Rattle.elf_format.specs.declared.section.TheConstants.{SHT_STRTAB, SHF_WRITE, SHF_ALLOC}
+use Rattle.elf_format.specs.declared.section.TheConstants.{SHF_INFO_LINK}
 use Rattle.elf_format.specs.declared.relocation.TheConstants.{R_X86_64_64}
 use Rattle.elf_write.specs.declared.part.Part.{Part}
 use Rattle.elf_write.specs.declared.params.SheetParam.{SheetParam}
@@ -48,19 +50,37 @@ section_symbol = zeros 24 ++ word 0 ++ 3 ∷ 0 ∷ half 1 ++ zeros 16
 -- The sections 1 to 3: values and names, the entries, and the texts.
 unfoldable pub loaded_param_parts : List SheetParam → List Part
 loaded_param_parts ps =
-    record { name = codes ".data"; attributes = plain SHT_PROGBITS (SHF_WRITE + SHF_ALLOC) 8; content = param_data ps }
-    ∷ record { name = codes "__param"; attributes = plain SHT_PROGBITS SHF_ALLOC 8; content = zeros (40 * length ps) }
-    ∷ record { name = codes ".modinfo"; attributes = plain SHT_PROGBITS SHF_ALLOC 1; content = flat_map type_text ps }
+    record {
+      name = codes ".data";
+      attributes = plain SHT_PROGBITS (SHF_WRITE + SHF_ALLOC) 8;
+      content = param_data ps;
+    }
+    ∷ record {
+      name = codes "__param";
+      attributes = plain SHT_PROGBITS SHF_ALLOC 8;
+      content = zeros (40 * length ps);
+    }
+    ∷ record {
+      name = codes ".modinfo";
+      attributes = plain SHT_PROGBITS SHF_ALLOC 1;
+      content = flat_map type_text ps;
+    }
     ∷ []
 
 -- The sections 4 to 6: these relocations of the entries, the symbols, and their names.
 unfoldable pub linked_param_parts : List ℕ → List Part
 linked_param_parts addresses =
-    record { name = codes ".rela__param"; attributes = table SHT_RELA SHF_INFO_LINK 5 2; content = addresses }
-    ∷ record { name = codes ".symtab"; attributes = table SHT_SYMTAB 0 6 2; content = section_symbol }
+    record {
+      name = codes ".rela__param";
+      attributes = table SHT_RELA SHF_INFO_LINK 5 2;
+      content = addresses;
+    }
+    ∷ record
+    { name = codes ".symtab"; attributes = table SHT_SYMTAB 0 6 2; content = section_symbol }
     ∷ record { name = codes ".strtab"; attributes = plain SHT_STRTAB 0 1; content = 0 ∷ [] }
     ∷ []
 
 -- The object file of parameters: these sections, and section 7 with the names of all.
 unfoldable pub param_object_of : List SheetParam → List ℕ
-param_object_of ps = file_of 7 (with_names (loaded_param_parts ps ++ linked_param_parts (addresses_of_params ps)) [])
+param_object_of ps =
+    file_of 7 (with_names (loaded_param_parts ps ++ linked_param_parts (addresses_of_params ps)) [])

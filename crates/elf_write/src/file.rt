@@ -1,7 +1,9 @@
 // The file of some sections.
-ghost use Rattle.std.specs.Prelude.{◌≡◌, ◌≤◌, ◌<◌, ◌+◌, ◌^◌, ◌++◌, ℕ, length, take, drop, fold, All, OnOk, IfOk};
+ghost use Rattle.std.specs.Prelude.{◌≡◌, ◌≤◌, ◌<◌, ◌+◌, ◌^◌, ◌++◌, ℕ, length, take, drop, fold};
+ghost use Rattle.std.specs.Prelude.{All, OnOk, IfOk};
 ghost use Rattle.elf_write.specs.Number.{zeros, xword};
-ghost use Rattle.elf_write.specs.File.{Laid, start, with_part, gap, header, section_header, file_of};
+ghost use Rattle.elf_write.specs.File.{Laid, start, with_part, gap, header, section_header};
+ghost use Rattle.elf_write.specs.File.{file_of};
 ghost use Rattle.elf_write.specs.Writing.{IsFileOf};
 
 use crate::bytes::{push_half, push_word, push_xword, push_zeros};
@@ -55,7 +57,8 @@ fn push_section_header(
     place: u64,
     size: u64,
 ) -> Result<(), AllocError>
-    ensures { OnOk result (out.new.items ≡ out.old.items ++ section_header name attributes.now place size) }
+    ensures { OnOk result
+        (out.new.items ≡ out.old.items ++ section_header name attributes.now place size) }
 {
     push_word(out, name)?;
     push_word(out, attributes.kind)?;
@@ -106,7 +109,9 @@ impl ObjectFile {
     /// Adds a section.
     pub(crate) fn push(&mut self, part: &Part) -> Result<(), AllocError>
         requires { self.old.names + length part.now.name + 1 < 2 ^ 32 }
-        ensures file { OnOk result ((l : Laid) (count named : ℕ) → IsFileOf self.old l count named → IsFileOf self.new (with_part l part.now) count named) }
+        ensures file { OnOk result
+            ((l : Laid) (count named : ℕ) → IsFileOf self.old l count named
+            → IsFileOf self.new (with_part l part.now) count named) }
         ensures names { OnOk result (self.new.names ≡ self.old.names + length part.now.name + 1) }
     {
         fill_up(&mut self.bytes)?;
@@ -124,7 +129,9 @@ impl ObjectFile {
         requires few { length parts.now ≤ 16 }
         requires short { All (λ p. length p.name ≤ 32) parts.now }
         requires names { self.old.names ≤ 1 }
-        ensures { OnOk result ((l : Laid) (count named : ℕ) → IsFileOf self.old l count named → IsFileOf self.new (fold with_part l parts.now) count named) }
+        ensures { OnOk result
+            ((l : Laid) (count named : ℕ) → IsFileOf self.old l count named
+            → IsFileOf self.new (fold with_part l parts.now) count named) }
     {
         for part in parts {
             self.push(part)?;
@@ -136,7 +143,10 @@ impl ObjectFile {
     pub(crate) fn finish(self) -> Result<Vec<u8>, AllocError>
         requires { 48 ≤ length self.bytes.items }
         ensures { IfOk result (λ v. (l : Laid) (count named : ℕ) → IsFileOf self l count named →
-            (let end = 64 + length l.contents in v.items ≡ header (end + gap end) count named ++ l.contents ++ zeros (gap end) ++ l.headers)) }
+            (let end
+            = 64 + length l.contents in v.items
+            ≡ header (end + gap end) count named ++ l.contents ++ zeros (gap end)
+            ++ l.headers)) }
     {
         let ObjectFile {
             mut bytes,

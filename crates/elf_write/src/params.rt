@@ -1,7 +1,9 @@
 // Objects of parameters.
 ghost use Rattle.std.specs.Prelude.{◌≡◌, ◌<◌, ◌+◌, ◌*◌, ◌^◌, [], ◌++◌, length, OnOk, IfOk};
 ghost use Rattle.std.specs.List.{flat_map};
-ghost use Rattle.elf_write.specs.Params.{addresses_of_params, data_address, names_of_params, param_object_of, loaded_param_parts, linked_param_parts, section_symbol, type_text};
+ghost use Rattle.elf_write.specs.Params.{addresses_of_params, data_address, names_of_params};
+ghost use Rattle.elf_write.specs.Params.{param_object_of, loaded_param_parts, linked_param_parts};
+ghost use Rattle.elf_write.specs.Params.{section_symbol, type_text};
 
 use crate::bytes::{push_half, push_word, push_xword, push_zeros, zeros};
 use crate::file::file_of;
@@ -70,7 +72,9 @@ pub(crate) struct Linked {
 /// `.data`.
 fn push_entry(out: &mut Vec<u8>, k: u64, name: u64) -> Result<(), AllocError>
     requires { 40 * k + 40 < 2 ^ 64 }
-    ensures { OnOk result (out.new.items ≡ out.old.items ++ data_address (40 * k) name ++ data_address (40 * k + 32) (8 * k)) }
+    ensures { OnOk result
+        (out.new.items
+        ≡ out.old.items ++ data_address (40 * k) name ++ data_address (40 * k + 32) (8 * k)) }
 {
     let offset = ENTRY_SIZE * k;
     push_address(out, offset, name)?;
@@ -153,7 +157,8 @@ fn push_loaded(
 
 /// Puts the sections for linking at the end.
 fn push_linked(alloc: Global, parts: &mut Vec<Part>, addresses: Vec<u8>) -> Result<(), AllocError>
-    ensures { OnOk result (parts.new.items ≡ parts.old.items ++ linked_param_parts addresses.items) }
+    ensures { OnOk result
+        (parts.new.items ≡ parts.old.items ++ linked_param_parts addresses.items) }
 {
     let relocated = Attributes::table(SHT_RELA, SHF_INFO_LINK, PARAM_SYMTAB, PARAM_TABLE);
     push_part(alloc, parts, b".rela__param", relocated, addresses)?;

@@ -74,7 +74,9 @@ impl Part {
         attributes: Attributes,
         content: Vec<u8>,
     ) -> Result<Part, AllocError>
-        ensures { IfOk result (λ p. p ≡ record { name = name.now; attributes = attributes; content = content.items }) }
+        ensures { IfOk result
+            (λ p. p
+            ≡ record { name = name.now; attributes = attributes; content = content.items }) }
     {
         Ok(Part {
             name: Name::from_slice(alloc, name)?,

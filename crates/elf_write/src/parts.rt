@@ -20,7 +20,11 @@ pub fn push_part(
     attributes: Attributes,
     content: Vec<u8>,
 ) -> Result<(), AllocError>
-    ensures { OnOk result (parts.new.items ≡ parts.old.items ++ record { name = name.now; attributes = attributes; content = content.items } ∷ []) }
+    ensures { OnOk result
+        (parts.new.items
+        ≡ parts.old.items
+        ++ record { name = name.now; attributes = attributes; content = content.items }
+        ∷ []) }
 {
     parts.push(Part::new(alloc, name, attributes, content)?)?;
     Ok(())
@@ -28,7 +32,8 @@ pub fn push_part(
 
 /// Puts the names of sections at the end, each with its NUL.
 fn push_names(out: &mut Vec<u8>, parts: &[Part]) -> Result<(), AllocError>
-    ensures { OnOk result (out.new.items ≡ out.old.items ++ flat_map (λ p. with_nul p.name) parts.now) }
+    ensures { OnOk result
+        (out.new.items ≡ out.old.items ++ flat_map (λ p. with_nul p.name) parts.now) }
 {
     for part in parts {
         out.extend_from_slice(part.name.as_bytes())?;

@@ -15,8 +15,12 @@ pub decides : (pattern text : List ℕ) → Decides (is_match pattern text) (Mat
 unfolding is_match
 decides pattern text = holds-decides (Matches pattern text) (parts.decision pattern text)
 
-pub decided : (answer : Bool) (pattern text : List ℕ) → (IsTrue answer ↔ Matches pattern text) → answer ≡ is_match pattern text
-decided answer pattern text h = same_from_decides answer (is_match pattern text) (h.0, h.1) (decides pattern text)
+pub decided : (answer : Bool) (pattern text : List ℕ) → (IsTrue answer ↔ Matches pattern text)
+    → answer ≡ is_match pattern text
+decided answer pattern text h =
+    same_from_decides answer (is_match pattern text) (h.0, h.1) (decides pattern text)
 
 pub is_match-parts : (pattern text : List ℕ) → is_match pattern text ≡ parts.is_taken pattern text
-is_match-parts pattern text = same_from_decides (is_match pattern text) (parts.is_taken pattern text) (decides pattern text) (parts.decides pattern text)
+is_match-parts pattern text =
+    same_from_decides (is_match pattern text) (parts.is_taken pattern text) (decides pattern text)
+    (parts.decides pattern text)

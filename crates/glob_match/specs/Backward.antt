@@ -1,6 +1,7 @@
 -- A file that is read from its last byte to its first, as a pattern.
 -- It belongs to the code: no public meaning rests on it.
-use Rattle.std.specs.Prelude.{◌≡◌, ◌≢◌, ℕ, suc, ◌+◌, ◌/◌, ◌<◌, ◌≤◌, List, length, slice_index, vec_len}
+use Rattle.std.specs.Prelude.{◌≡◌, ◌≢◌, ℕ, suc, ◌+◌, ◌/◌, ◌<◌, ◌≤◌, List, length, slice_index}
+use Rattle.std.specs.Prelude.{vec_len}
 use Rattle.glob_pattern.specs.Pattern.{closing}
 use Rattle.glob_pattern.specs.Parts.{is_listed}
 use Rattle.glob_match.specs.Words.{HasBits}
@@ -11,7 +12,8 @@ use Rattle.glob_match.specs.declared.backward.Backward.{Backward}
 -- The words have the places of the text whose bytes the items list, from a place of the file on up
 -- to another.
 abbrev pub AreListed : List ℕ → List ℕ → ℕ → ℕ → List ℕ → Type 0
-AreListed file text at close words = HasBits words (λ t. is_listed (part file at close) (slice_index text t))
+AreListed file text at close words =
+    HasBits words (λ t. is_listed (part file at close) (slice_index text t))
 
 -- A bracket closes the set that is open at a place: what its items list from there on, and what
 -- follows it.

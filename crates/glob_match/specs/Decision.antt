@@ -1,5 +1,6 @@
--- Whether a text matches a pattern, as a test for filters of lists. It is the relation of `Pattern`,
--- which the law of `glob_pattern` decides for each pattern and each text. fnmatch(3), glob(7).
+-- Whether a text matches a pattern, as a test for filters of lists. It is the relation of
+-- `Pattern`, which the law of `glob_pattern` decides for each pattern and each text. fnmatch(3),
+-- glob(7).
 use Rattle.std.specs.Prelude.{ℕ, Bool, true, false, List}
 use Rattle.glob_pattern.specs.Pattern.{Matches}
 use Rattle.glob_pattern.proofs.DecisionLemmas.{decision}

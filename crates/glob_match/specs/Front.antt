@@ -1,11 +1,13 @@
 -- What the front of a set's items, and of a pattern, means for the whole, as the code uses it.
 -- It belongs to the code: no public meaning rests on it.
-use Rattle.std.specs.Prelude.{◌≡◌, ◌≢◌, ◌≤◌, ◌<◌, ◌↔◌, ◌⊎◌, ℕ, List, ◌∷◌, ◌++◌, length, drop, Contains}
+use Rattle.std.specs.Prelude.{◌≡◌, ◌≢◌, ◌≤◌, ◌<◌, ◌↔◌, ◌⊎◌, ℕ, List, ◌∷◌, ◌++◌, length, drop}
+use Rattle.std.specs.Prelude.{Contains}
 use Rattle.glob_pattern.specs.Pattern.{Lists, Has, Matches, star, question, bracket, closing}
 use Rattle.glob_match.specs.declared.element.Element.{Element}
 use Rattle.glob_match.specs.declared.element.Element.TheVariants.{Run, Any, Set, Byte}
 use Rattle.glob_match.specs.declared.meeting.Meeting.{Meeting}
-use Rattle.glob_match.specs.declared.meeting.Meeting.TheVariants.{End, Skips, Takes, Mismatch, Unclosed}
+use Rattle.glob_match.specs.declared.meeting.Meeting.TheVariants.{End, Skips, Takes, Mismatch}
+use Rattle.glob_match.specs.declared.meeting.Meeting.TheVariants.{Unclosed}
 
 -- The items begin with this range, and these items follow.
 pub record BeginsWith (items : List ℕ) (low high : ℕ) (after : List ℕ) : Type 0 where
@@ -21,8 +23,10 @@ pub record Closes (bytes inside after : List ℕ) : Type 0 where
 abbrev pub IsFirst : List ℕ → Element → List ℕ → Type 0
 IsFirst pattern Run after = pattern ≡ star ∷ after
 IsFirst pattern Any after = pattern ≡ question ∷ after
-IsFirst pattern (Set inside) after = (bytes : List ℕ) × (pattern ≡ bracket ∷ bytes) × Closes bytes inside.now after
-IsFirst pattern (Byte byte) after = (pattern ≡ byte ∷ after) × (byte ≢ star) × (byte ≢ question) × (byte ≢ bracket)
+IsFirst pattern (Set inside) after =
+    (bytes : List ℕ) × (pattern ≡ bracket ∷ bytes) × Closes bytes inside.now after
+IsFirst pattern (Byte byte) after =
+    (pattern ≡ byte ∷ after) × (byte ≢ star) × (byte ≢ question) × (byte ≢ bracket)
 
 -- The element matches this one byte, whatever follows.
 abbrev pub IsMet : Element → ℕ → Type 0
@@ -34,7 +38,8 @@ IsMet (Byte own) byte = byte ≡ own
 -- The pattern matches a text exactly if what follows matches some end of it.
 pub record IsRun (pattern after : List ℕ) : Type 0 where
   pub shorter : length after < length pattern
-  pub ends : (text : List ℕ) → Matches pattern text ↔ ((skipped : ℕ) × Matches after (drop skipped text))
+  pub ends : (text : List ℕ) → Matches pattern text
+      ↔ ((skipped : ℕ) × Matches after (drop skipped text))
 
 -- The pattern matches this text if what follows matches the text's rest. It matches a text only if
 -- what follows matches that text's rest.

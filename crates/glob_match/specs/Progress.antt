@@ -1,6 +1,8 @@
 -- A pattern that is read byte by byte, and the places of a text that it reaches.
 -- The contract of `Progress` cites it; no lookup does.
-use Rattle.std.specs.Prelude.{◌≡◌, ℕ, ◌+◌, ◌-◌, ◌/◌, ◌≤◌, ◌&&◌, ◌||◌, not, nat_le, Bool, List, [], ◌∷◌, ◌++◌, length, take, drop, slice_index, vec_len, Option, Some, None, if◌then◌else◌}
+use Rattle.std.specs.Prelude.{◌≡◌, ℕ, ◌+◌, ◌-◌, ◌/◌, ◌≤◌, ◌&&◌, ◌||◌, not, nat_le, Bool, List, []}
+use Rattle.std.specs.Prelude.{◌∷◌, ◌++◌, length, take, drop, slice_index, vec_len, Option, Some}
+use Rattle.std.specs.Prelude.{None, if◌then◌else◌}
 use Rattle.std.specs.Option.{option_map}
 use Rattle.glob_pattern.specs.Pattern.{dash}
 use Rattle.glob_pattern.specs.Parts.{Part, parts_from, parts_take, is_listed, is_in_set}
@@ -29,23 +31,31 @@ flip negated t = if negated then not t else t
 
 -- The items of an open set so far: which places of the text they list, from the first one on, and
 -- what is pending.
-pub record IsOpen (text : List ℕ) (negated : Bool) (first : ℕ) (pending items listed : List ℕ) : Type 0 where
+pub record IsOpen (text : List ℕ) (negated : Bool) (first : ℕ) (pending items listed : List ℕ) :
+    Type 0 where
   pub test : ℕ → Bool
-  pub tests : (rest : List ℕ) (byte : ℕ) → is_in_set (items ++ rest) byte ≡ flip negated (test byte || is_listed (pending ++ rest) byte)
+  pub tests : (rest : List ℕ) (byte : ℕ)
+      → is_in_set (items ++ rest) byte
+      ≡ flip negated (test byte || is_listed (pending ++ rest) byte)
   pub bits : HasBits listed (λ n. test (slice_index text (first + n)))
 
 -- The set that is open at a place of the pattern, by its items so far.
 abbrev pub IsAt : List ℕ → Place → Option (List ℕ) → ℕ → List ℕ → Type 0
 IsAt text Outside open_set first listed = open_set ≡ None
 IsAt text Opened open_set first listed = open_set ≡ Some []
-IsAt text (Inside negated pending) open_set first listed = (items : List ℕ) × (open_set ≡ Some items) × IsOpen text negated first (pending_items pending) items listed
+IsAt text (Inside negated pending) open_set first listed =
+    (items : List ℕ) × (open_set ≡ Some items)
+    × IsOpen text negated first (pending_items pending) items listed
 
 -- The pattern was read up to here: its parts, which places of the text they reach, and the set that
 -- is open.
-pub record Stands (text pattern : List ℕ) (place : Place) (first : ℕ) (reached listed : List ℕ) : Type 0 where
+pub record Stands (text pattern : List ℕ) (place : Place) (first : ℕ) (reached listed : List ℕ) :
+    Type 0 where
   pub parts : List Part
   pub open_set : Option (List ℕ)
-  pub read : (rest : List ℕ) → parts_from None (pattern ++ rest) ≡ option_map (λ ps. parts ++ ps) (parts_from open_set rest)
+  pub read : (rest : List ℕ)
+      → parts_from None (pattern ++ rest)
+      ≡ option_map (λ ps. parts ++ ps) (parts_from open_set rest)
   pub places : HasPlaces first reached (reaches parts text)
   pub set : IsAt text place open_set first listed
 
@@ -65,17 +75,20 @@ IsOver p text = IsText text p.bytes.items p.size
 
 -- The progress has read this pattern.
 abbrev pub HasRead : Progress → List ℕ → List ℕ → Type 0
-HasRead p text pattern = Stands text pattern p.place p.state.first p.state.reached.items p.state.listed.items
+HasRead p text pattern =
+    Stands text pattern p.place p.state.first p.state.reached.items p.state.listed.items
 
 -- A progress that was saved with these words had read this pattern.
 pub record WasRead (text pattern : List ℕ) (saved : Saved) (words : List ℕ) : Type 0 where
   pub size : length words ≡ saved.count + saved.count
   pub low : saved.first ≤ length text
   pub few : saved.count ≤ (length text - saved.first) / 64 + 1
-  pub stands : Stands text pattern saved.place saved.first (take saved.count words) (drop saved.count words)
+  pub stands : Stands text pattern saved.place saved.first (take saved.count words)
+      (drop saved.count words)
 
 -- The words of the progress were added at the end.
 pub record IsSaved (p : Progress) (saved : Saved) (old new : List ℕ) : Type 0 where
   pub words : List ℕ
   pub added : new ≡ old ++ words
-  pub read : (text pattern : List ℕ) → IsOver p text → HasRead p text pattern → WasRead text pattern saved words
+  pub read : (text pattern : List ℕ) → IsOver p text → HasRead p text pattern
+      → WasRead text pattern saved words

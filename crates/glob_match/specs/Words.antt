@@ -1,6 +1,7 @@
 -- Sets of numbers as bits of words.
 -- The contract of `Progress` cites it; no lookup does.
-use Rattle.std.specs.Prelude.{◌≡◌, ℕ, zero, suc, ◌+◌, ◌*◌, ◌<◌, ◌≤◌, ◌&&◌, ◌||◌, nat_le, Bool, false, List, length, slice_index, if◌then◌else◌}
+use Rattle.std.specs.Prelude.{◌≡◌, ℕ, zero, suc, ◌+◌, ◌*◌, ◌<◌, ◌≤◌, ◌&&◌, ◌||◌, nat_le, Bool}
+use Rattle.std.specs.Prelude.{false, List, length, slice_index, if◌then◌else◌}
 use Rattle.std.specs.Int.{bit_at}
 
 -- A test as a bit.
@@ -13,7 +14,8 @@ is_between low high byte = nat_le low byte && nat_le byte high
 
 -- The words have a bit for each number that passes the test, 64 in each word.
 abbrev pub HasBits : List ℕ → (ℕ → Bool) → Type 0
-HasBits words test = (k i : ℕ) → k < length words → i < 64 → bit_at (slice_index words k) i ≡ bit (test (64 * k + i))
+HasBits words test =
+    (k i : ℕ) → k < length words → i < 64 → bit_at (slice_index words k) i ≡ bit (test (64 * k + i))
 
 -- The numbers after those that pass both tests.
 abbrev pub moved : (ℕ → Bool) → (ℕ → Bool) → ℕ → Bool

@@ -1,5 +1,6 @@
 // The set that may be open at a place of a file, by what is ahead there.
-ghost use Rattle.std.specs.Prelude.{◌≡◌, ◌≢◌, ℕ, suc, ◌+◌, ◌*◌, ◌/◌, ◌<◌, ◌≤◌, List, length, slice_index, vec_len, IfOk};
+ghost use Rattle.std.specs.Prelude.{◌≡◌, ◌≢◌, ℕ, suc, ◌+◌, ◌*◌, ◌/◌, ◌<◌, ◌≤◌, List, length};
+ghost use Rattle.std.specs.Prelude.{slice_index, vec_len, IfOk};
 ghost use Rattle.glob_pattern.specs.Pattern.{bracket, closing};
 ghost use Rattle.glob_match.specs.Words.{HasBits};
 ghost use Rattle.glob_match.specs.Progress.{IsText};
@@ -10,8 +11,8 @@ use crate::words::{BITS, add_range, clear, keep, keep_others};
 use std::alloc::{AllocError, Global};
 use std::mem::swap;
 
-/// What is ahead of a place up to the next `]` or the next NUL. It lists the places of the text whose
-/// bytes are in a set that is closed by that `]`.
+/// What is ahead of a place up to the next `]` or the next NUL. It lists the places of the text
+/// whose bytes are in a set that is closed by that `]`.
 #[derive(Drop)]
 pub(crate) struct Ahead {
     /// The place of that `]`, or of the NUL if it comes first.
@@ -33,7 +34,10 @@ fn add_item(listed: &mut [u64], next: &[u64], file: &[u8], at: usize, close: usi
     requires within { close < length file.now }
     requires padded { BITS * length listed.old ≤ length bytes.now }
     requires size { length next.now ≡ length listed.old }
-    ensures { (text : List ℕ) → ((n : ℕ) → slice_index bytes.now n ≡ slice_index text n) → AreListed file.now text (at + 1) close next.now → (at + 3 ≤ close → AreListed file.now text (at + 3) close listed.old) → AreListed file.now text at close listed.new }
+    ensures { (text : List ℕ) → ((n : ℕ) → slice_index bytes.now n ≡ slice_index text n)
+        → AreListed file.now text (at + 1) close next.now
+        → (at + 3 ≤ close → AreListed file.now text (at + 3) close listed.old)
+        → AreListed file.now text at close listed.new }
 {
     if close > at + 2 && file[at + 1] == b'-' {
         add_range(listed, bytes, file[at], file[at + 2]);
@@ -66,7 +70,8 @@ impl Ahead {
         requires padded { size + BITS ≤ length bytes.now }
         requires sized { AreSized (size / 64 + 1) self.old }
         ensures sized { AreSized (size / 64 + 1) self.new }
-        ensures ahead { (text : List ℕ) → IsText text bytes.now size → IsAhead file.now text (at + 1) to self.old → IsAhead file.now text at to self.new }
+        ensures ahead { (text : List ℕ) → IsText text bytes.now size
+            → IsAhead file.now text (at + 1) to self.old → IsAhead file.now text at to self.new }
     {
         if self.close <= at || self.close >= to {
             return;
@@ -82,7 +87,9 @@ impl Ahead {
         requires sized { AreSized (size / 64 + 1) self.old }
         requires after { length after.now ≡ size / 64 + 1 }
         ensures sized { AreSized (size / 64 + 1) self.new }
-        ensures ahead { (file text : List ℕ) (to : ℕ) → at < to → slice_index file at ≡ closing → HasBits after.now (λ t. is_end (part file (at + 1) to) text (suc t)) → IsAhead file text at to self.new }
+        ensures ahead { (file text : List ℕ) (to : ℕ) → at < to → slice_index file at ≡ closing
+            → HasBits after.now (λ t. is_end (part file (at + 1) to) text (suc t))
+            → IsAhead file text at to self.new }
     {
         self.close = at;
         self.after.copy_from_slice(after);
@@ -96,7 +103,8 @@ impl Ahead {
         requires bracket { slice_index file.now at ≡ bracket }
         requires sized { AreSized (size / 64 + 1) self.now }
         requires ends { length ends.old ≡ size / 64 + 1 }
-        ensures { (text : List ℕ) → length text ≡ size → IsAhead file.now text (at + 1) to self.now → HasBits ends.new (is_end (part file.now at to) text) }
+        ensures { (text : List ℕ) → length text ≡ size → IsAhead file.now text (at + 1) to self.now
+            → HasBits ends.new (is_end (part file.now at to) text) }
     {
         if self.close >= to {
             clear(ends);

@@ -1,4 +1,5 @@
-ghost use Rattle.std.specs.Prelude.{◌≡◌, ◌≢◌, ℕ, ◌+◌, ◌*◌, ◌/◌, ◌<◌, ◌≤◌, List, ◌∷◌, length, slice_index, vec_len, IfOk};
+ghost use Rattle.std.specs.Prelude.{◌≡◌, ◌≢◌, ℕ, ◌+◌, ◌*◌, ◌/◌, ◌<◌, ◌≤◌, List, ◌∷◌, length};
+ghost use Rattle.std.specs.Prelude.{slice_index, vec_len, IfOk};
 ghost use Rattle.glob_pattern.specs.Pattern.{bracket, closing};
 ghost use Rattle.glob_match.specs.Words.{HasBits};
 ghost use Rattle.glob_match.specs.Progress.{IsText};
@@ -25,7 +26,8 @@ fn take_byte(ends: &mut [u64], bytes: &[u8], size: usize, byte: u8)
     requires ends { length ends.old ≡ size / 64 + 1 }
     requires padded { size + BITS ≤ length bytes.now }
     requires byte { byte ≢ bracket }
-    ensures { (text pattern : List ℕ) → IsText text bytes.now size → HasBits ends.old (is_end pattern text) → HasBits ends.new (is_end (byte ∷ pattern) text) }
+    ensures { (text pattern : List ℕ) → IsText text bytes.now size
+        → HasBits ends.old (is_end pattern text) → HasBits ends.new (is_end (byte ∷ pattern) text) }
 {
     match byte {
         b'*' => fill_down(ends),
@@ -41,7 +43,8 @@ impl Backward {
     /// Begins at the end of a file, for a text of this size.
     pub(crate) fn new(alloc: Global, to: usize, size: usize) -> Result<Backward, AllocError>
         ensures ready { (file : List ℕ) → length file ≡ to → IfOk result (IsReady size file to) }
-        ensures begun { (file text : List ℕ) → length text ≡ size → IfOk result (IsBackward file text to) }
+        ensures begun { (file text : List ℕ) → length text ≡ size
+            → IfOk result (IsBackward file text to) }
     {
         let count = size / BITS + 1;
         let mut ends = vec![in alloc; 0u64; count]?;
@@ -58,7 +61,8 @@ impl Backward {
         requires ready { IsReady size file.now (at + 1) self.old }
         requires padded { size + BITS ≤ length bytes.now }
         ensures ready { IsReady size file.now at self.new }
-        ensures back { (text : List ℕ) → IsText text bytes.now size → IsBackward file.now text (at + 1) self.old → IsBackward file.now text at self.new }
+        ensures back { (text : List ℕ) → IsText text bytes.now size
+            → IsBackward file.now text (at + 1) self.old → IsBackward file.now text at self.new }
     {
         match file[at] {
             0 => self.begin_at(at, size),
@@ -77,8 +81,10 @@ impl Backward {
     /// Begins a pattern that ends at a place.
     fn begin_at(&mut self, at: usize, size: usize)
         requires { vec_len self.old.ends ≡ size / 64 + 1 }
-        ensures ready { (file : List ℕ) → at ≤ length file → AreSized (size / 64 + 1) self.old.ahead → IsReady size file at self.new }
-        ensures begun { (file text : List ℕ) → length text ≡ size → IsBackward file text at self.new }
+        ensures ready { (file : List ℕ) → at ≤ length file → AreSized (size / 64 + 1) self.old.ahead
+            → IsReady size file at self.new }
+        ensures begun { (file text : List ℕ) → length text ≡ size
+            → IsBackward file text at self.new }
     {
         self.to = at;
         self.ahead.close = at;
@@ -90,8 +96,11 @@ impl Backward {
         requires ends { vec_len self.old.ends ≡ size / 64 + 1 }
         requires sized { AreSized (size / 64 + 1) self.old.ahead }
         requires padded { size + BITS ≤ length bytes.now }
-        ensures ready { (file : List ℕ) → at < self.old.to → self.old.to ≤ length file → IsReady size file at self.new }
-        ensures back { (file text : List ℕ) → at < self.old.to → self.old.to ≤ length file → slice_index file at ≡ closing → IsText text bytes.now size → IsBackward file text (at + 1) self.old → IsBackward file text at self.new }
+        ensures ready { (file : List ℕ) → at < self.old.to → self.old.to ≤ length file
+            → IsReady size file at self.new }
+        ensures back { (file text : List ℕ) → at < self.old.to → self.old.to ≤ length file
+            → slice_index file at ≡ closing → IsText text bytes.now size
+            → IsBackward file text (at + 1) self.old → IsBackward file text at self.new }
     {
         shift_down(&mut self.ends);
         self.ahead.close(at, &self.ends, size);

@@ -1,4 +1,5 @@
-ghost use Rattle.std.specs.Prelude.{◌≡◌, ℕ, ◌+◌, ◌*◌, ◌/◌, ◌<◌, ◌≤◌, ◌&&◌, ◌||◌, Bool, List, length, vec_len, OnOk, IfSome};
+ghost use Rattle.std.specs.Prelude.{◌≡◌, ℕ, ◌+◌, ◌*◌, ◌/◌, ◌<◌, ◌≤◌, ◌&&◌, ◌||◌, Bool, List};
+ghost use Rattle.std.specs.Prelude.{length, vec_len, OnOk, IfSome};
 ghost use Rattle.glob_match.specs.Words.{HasBits};
 ghost use Rattle.glob_match.specs.Progress.{IsOver, IsWhole};
 ghost use Rattle.glob_match.specs.Ends.{AreEnds, is_end, part};
@@ -78,8 +79,10 @@ impl Ends {
     /// Out of memory. Nothing is promised of what it knows then.
     pub fn find(&mut self, bytes: &[u8], progress: &Progress) -> Result<(), AllocError>
         requires whole { IsWhole progress.now }
-        requires ends { (text : List ℕ) → IsOver progress.now text → AreEnds bytes.now text self.old }
-        ensures { OnOk result ((text : List ℕ) → IsOver progress.now text → AreEnds bytes.now text self.new) }
+        requires ends { (text : List ℕ) → IsOver progress.now text
+            → AreEnds bytes.now text self.old }
+        ensures { OnOk result
+            ((text : List ℕ) → IsOver progress.now text → AreEnds bytes.now text self.new) }
     {
         if !self.ends.is_empty() {
             return Ok(());
@@ -99,7 +102,10 @@ impl Ends {
 
     /// Adds what is read of the file from a place on, if that is the one of its block.
     fn add(&mut self, at: usize, known: usize, backward: &Backward) -> Result<(), AllocError>
-        ensures { OnOk result ((file text : List ℕ) → vec_len backward.now.ends ≡ length text / 64 + 1 → IsBackward file text at backward.now → AreEnds file text self.old → AreEnds file text self.new) }
+        ensures { OnOk result
+            ((file text : List ℕ) → vec_len backward.now.ends ≡ length text / 64 + 1
+            → IsBackward file text at backward.now → AreEnds file text self.old
+            → AreEnds file text self.new) }
     {
         if at != known {
             return Ok(());
@@ -116,7 +122,8 @@ impl Ends {
 
     /// Returns the words for a part of the file, in a text of this size.
     pub(crate) fn words(&self, at: usize, to: usize, size: usize) -> Option<&[u64]>
-        ensures words { (file text : List ℕ) → length text ≡ size → AreEnds file text self.now → IfSome result (λ words. HasBits words.now (is_end (part file at to) text)) }
+        ensures words { (file text : List ℕ) → length text ≡ size → AreEnds file text self.now
+            → IfSome result (λ words. HasBits words.now (is_end (part file at to) text)) }
         ensures size { IfSome result (λ words. length words.now ≡ size / 64 + 1) }
     {
         let place = self.ends.len().checked_sub(at / BLOCK + 1)?;

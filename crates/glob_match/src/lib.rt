@@ -4,8 +4,8 @@
 //! [`Progress`] reads a pattern byte by byte over one text, and decides the same relation for each
 //! front of it. It can be saved, so that patterns that begin alike are matched together. Where many
 //! patterns end alike in one file, [`Runs`] has what its long runs come to, so that each is read as
-//! one. [`Ends`] has which ends of the text match what stands in the file up to the next NUL, from a
-//! place in each of its blocks on, so that the rest of a pattern needn't be read. The crate uses
+//! one. [`Ends`] has which ends of the text match what stands in the file up to the next NUL, from
+//! a place in each of its blocks on, so that the rest of a pattern needn't be read. The crate uses
 //! `glob_pattern` for the relation.
 #![tactic(auto)]
 

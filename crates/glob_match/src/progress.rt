@@ -1,4 +1,5 @@
-ghost use Rattle.std.specs.Prelude.{◌≡◌, ℕ, ◌+◌, ◌-◌, ◌<◌, ◌≤◌, ◌^◌, take, drop, List, [], ◌∷◌, ◌++◌, IfOk, IfSome, OnOk, IsTrue, ◌↔◌, length};
+ghost use Rattle.std.specs.Prelude.{◌≡◌, ℕ, ◌+◌, ◌-◌, ◌<◌, ◌≤◌, ◌^◌, take, drop, List, [], ◌∷◌};
+ghost use Rattle.std.specs.Prelude.{◌++◌, IfOk, IfSome, OnOk, IsTrue, ◌↔◌, length};
 ghost use Rattle.glob_pattern.specs.Pattern.{Matches};
 ghost use Rattle.glob_match.specs.Runs.{AreRuns};
 ghost use Rattle.glob_match.specs.Ends.{AreEnds};
@@ -78,14 +79,16 @@ impl Progress {
         requires { IsWhole self.old }
         ensures whole { OnOk result (IsWhole self.new) }
         ensures over { OnOk result ((text : List ℕ) → IsOver self.old text → IsOver self.new text) }
-        ensures read { OnOk result ((text pattern : List ℕ) → IsOver self.old text → HasRead self.old text pattern → HasRead self.new text (pattern ++ byte ∷ [])) }
+        ensures read { OnOk result
+            ((text pattern : List ℕ) → IsOver self.old text → HasRead self.old text pattern
+            → HasRead self.new text (pattern ++ byte ∷ [])) }
     {
         self.place = read(self.place, &mut self.state, &self.bytes, self.size, byte)?;
         Ok(())
     }
 
-    /// Reads the bytes of a file from a place on: one, or a run of `*` or of items of a set. Returns
-    /// the place after them.
+    /// Reads the bytes of a file from a place on: one, or a run of `*` or of items of a set.
+    /// Returns the place after them.
     ///
     /// # Errors
     ///
@@ -105,7 +108,9 @@ impl Progress {
         ensures over { OnOk result ((text : List ℕ) → IsOver self.old text → IsOver self.new text) }
         ensures more { IfOk result (λ next. from < next) }
         ensures high { IfOk result (λ next. next ≤ to) }
-        ensures read { IfOk result (λ next. (text pattern : List ℕ) → IsOver self.old text → HasRead self.old text pattern → HasRead self.new text (pattern ++ take (next - from) (drop from file.now))) }
+        ensures read { IfOk result
+            (λ next. (text pattern : List ℕ) → IsOver self.old text → HasRead self.old text pattern
+            → HasRead self.new text (pattern ++ take (next - from) (drop from file.now))) }
     {
         if let Place::Outside = self.place
             && file[from] == b'*'
@@ -127,7 +132,8 @@ impl Progress {
     /// Returns whether the pattern so far matches the text.
     pub fn is_match(&self) -> bool
         requires { IsWhole self.now }
-        ensures { (text pattern : List ℕ) → IsOver self.now text → HasRead self.now text pattern → (IsTrue result ↔ Matches pattern text) }
+        ensures { (text pattern : List ℕ) → IsOver self.now text → HasRead self.now text pattern
+            → (IsTrue result ↔ Matches pattern text) }
     {
         match self.place {
             Place::Outside => self.state.has(self.size),
@@ -135,11 +141,14 @@ impl Progress {
         }
     }
 
-    /// Returns whether the pattern so far, with the bytes of a file from a place up to another after
-    /// it, matches the text. The result is `None` if it isn't known what these bytes match.
+    /// Returns whether the pattern so far, with the bytes of a file from a place up to another
+    /// after it, matches the text. The result is `None` if it isn't known what these bytes match.
     pub fn is_match_with(&self, ends: &Ends, at: usize, to: usize) -> Option<bool>
         requires whole { IsWhole self.now }
-        ensures { (file text pattern : List ℕ) → AreEnds file text ends.now → IsOver self.now text → HasRead self.now text pattern → IfSome result (λ r. IsTrue r ↔ Matches (pattern ++ take (to - at) (drop at file)) text) }
+        ensures { (file text pattern : List ℕ) → AreEnds file text ends.now → IsOver self.now text
+            → HasRead self.now text pattern
+            → IfSome result
+            (λ r. IsTrue r ↔ Matches (pattern ++ take (to - at) (drop at file)) text) }
     {
         match self.place {
             Place::Outside => {
@@ -152,7 +161,8 @@ impl Progress {
 
     /// Returns whether no pattern that begins with the one so far matches the text.
     pub fn is_lost(&self) -> bool
-        ensures { (text pattern : List ℕ) → IsOver self.now text → HasRead self.now text pattern → IsTrue result → (rest : List ℕ) → ¬ Matches (pattern ++ rest) text }
+        ensures { (text pattern : List ℕ) → IsOver self.now text → HasRead self.now text pattern
+            → IsTrue result → (rest : List ℕ) → ¬ Matches (pattern ++ rest) text }
     {
         is_empty(&self.state.reached)
     }
@@ -179,9 +189,13 @@ impl Progress {
     pub fn restore(&mut self, saved: &Saved, words: &[u64]) -> Result<(), AllocError>
         requires whole { IsWhole self.old }
         requires size { length words.now ≡ saved.now.count + saved.now.count }
-        ensures whole { OnOk result ((text pattern : List ℕ) → IsOver self.old text → WasRead text pattern saved.now words.now → IsWhole self.new) }
+        ensures whole { OnOk result
+            ((text pattern : List ℕ) → IsOver self.old text
+            → WasRead text pattern saved.now words.now → IsWhole self.new) }
         ensures over { OnOk result ((text : List ℕ) → IsOver self.old text → IsOver self.new text) }
-        ensures read { OnOk result ((text pattern : List ℕ) → WasRead text pattern saved.now words.now → HasRead self.new text pattern) }
+        ensures read { OnOk result
+            ((text pattern : List ℕ) → WasRead text pattern saved.now words.now
+            → HasRead self.new text pattern) }
     {
         self.place = saved.place;
         self.state.first = saved.first;

@@ -1,5 +1,6 @@
 // One byte of a pattern, by what it does to the places of a text that the pattern reaches.
-ghost use Rattle.std.specs.Prelude.{◌≡◌, ℕ, ◌+◌, ◌≤◌, ◌&&◌, ◌||◌, nat_le, Bool, List, [], ◌∷◌, ◌++◌, length, slice_index, OnOk, IfOk};
+ghost use Rattle.std.specs.Prelude.{◌≡◌, ℕ, ◌+◌, ◌≤◌, ◌&&◌, ◌||◌, nat_le, Bool, List, [], ◌∷◌};
+ghost use Rattle.std.specs.Prelude.{◌++◌, length, slice_index, OnOk, IfOk};
 ghost use Rattle.glob_pattern.specs.Pattern.{closing};
 ghost use Rattle.glob_pattern.specs.Parts.{is_listed};
 ghost use Rattle.glob_match.specs.Words.{is_between, HasBits, HasPlaces, moved};
@@ -23,7 +24,12 @@ pub(crate) fn read(
     requires kept { IsKept size state.old }
     requires padded { size + BITS ≤ length bytes.now }
     ensures kept { OnOk result (IsKept size state.new) }
-    ensures read { IfOk result (λ next. (text pattern : List ℕ) → IsText text bytes.now size → Stands text pattern place state.old.first state.old.reached.items state.old.listed.items → Stands text (pattern ++ byte ∷ []) next state.new.first state.new.reached.items state.new.listed.items) }
+    ensures read { IfOk result
+        (λ next. (text pattern : List ℕ) → IsText text bytes.now size
+        → Stands text pattern place state.old.first state.old.reached.items
+        state.old.listed.items
+        → Stands text (pattern ++ byte ∷ []) next state.new.first state.new.reached.items
+        state.new.listed.items) }
 {
     match place {
         Place::Outside => read_outside(state, bytes, size, byte),
@@ -39,7 +45,10 @@ fn take_range(state: &mut State, bytes: &[u8], size: usize, low: u8, high: u8)
     requires kept { IsKept size state.old }
     requires padded { size + BITS ≤ length bytes.now }
     ensures kept { IsKept size state.new }
-    ensures places { (test : ℕ → Bool) → HasPlaces state.old.first state.old.reached.items test → HasPlaces state.new.first state.new.reached.items (λ n. nat_le n size && moved test (λ m. is_between low high (slice_index bytes.now m)) n) }
+    ensures places { (test : ℕ → Bool) → HasPlaces state.old.first state.old.reached.items test
+        → HasPlaces state.new.first state.new.reached.items
+        (λ n. nat_le n size
+        && moved test (λ m. is_between low high (slice_index bytes.now m)) n) }
 {
     state.unlist();
     state.list(bytes, size, low, high);
@@ -51,7 +60,12 @@ fn read_outside(state: &mut State, bytes: &[u8], size: usize, byte: u8) -> Resul
     requires kept { IsKept size state.old }
     requires padded { size + BITS ≤ length bytes.now }
     ensures kept { OnOk result (IsKept size state.new) }
-    ensures read { IfOk result (λ next. (text pattern : List ℕ) → IsText text bytes.now size → Stands text pattern Outside state.old.first state.old.reached.items state.old.listed.items → Stands text (pattern ++ byte ∷ []) next state.new.first state.new.reached.items state.new.listed.items) }
+    ensures read { IfOk result
+        (λ next. (text pattern : List ℕ) → IsText text bytes.now size
+        → Stands text pattern Outside state.old.first state.old.reached.items
+        state.old.listed.items
+        → Stands text (pattern ++ byte ∷ []) next state.new.first state.new.reached.items
+        state.new.listed.items) }
 {
     match byte {
         b'*' => {
@@ -74,7 +88,10 @@ fn read_outside(state: &mut State, bytes: &[u8], size: usize, byte: u8) -> Resul
 fn read_opened(state: &mut State, size: usize, byte: u8) -> Place
     requires { IsKept size state.old }
     ensures kept { IsKept size state.new }
-    ensures read { (text pattern : List ℕ) → length text ≡ size → Stands text pattern Opened state.old.first state.old.reached.items state.old.listed.items → Stands text (pattern ++ byte ∷ []) result state.new.first state.new.reached.items state.new.listed.items }
+    ensures read { (text pattern : List ℕ) → length text ≡ size
+        → Stands text pattern Opened state.old.first state.old.reached.items state.old.listed.items
+        → Stands text (pattern ++ byte ∷ []) result state.new.first state.new.reached.items
+        state.new.listed.items }
 {
     state.unlist();
     match byte {
@@ -99,7 +116,11 @@ fn read_inside(
     requires kept { IsKept size state.old }
     requires padded { size + BITS ≤ length bytes.now }
     ensures kept { IsKept size state.new }
-    ensures read { (text pattern : List ℕ) → IsText text bytes.now size → Stands text pattern (Inside negated pending) state.old.first state.old.reached.items state.old.listed.items → Stands text (pattern ++ byte ∷ []) result state.new.first state.new.reached.items state.new.listed.items }
+    ensures read { (text pattern : List ℕ) → IsText text bytes.now size
+        → Stands text pattern (Inside negated pending) state.old.first state.old.reached.items
+        state.old.listed.items
+        → Stands text (pattern ++ byte ∷ []) result state.new.first state.new.reached.items
+        state.new.listed.items }
 {
     if byte == b']' {
         close(state, bytes, size, negated, pending);
@@ -114,7 +135,11 @@ fn close(state: &mut State, bytes: &[u8], size: usize, negated: bool, pending: P
     requires kept { IsKept size state.old }
     requires padded { size + BITS ≤ length bytes.now }
     ensures kept { IsKept size state.new }
-    ensures read { (text pattern : List ℕ) → IsText text bytes.now size → Stands text pattern (Inside negated pending) state.old.first state.old.reached.items state.old.listed.items → Stands text (pattern ++ closing ∷ []) Outside state.new.first state.new.reached.items state.new.listed.items }
+    ensures read { (text pattern : List ℕ) → IsText text bytes.now size
+        → Stands text pattern (Inside negated pending) state.old.first state.old.reached.items
+        state.old.listed.items
+        → Stands text (pattern ++ closing ∷ []) Outside state.new.first state.new.reached.items
+        state.new.listed.items }
 {
     add_pending(state, bytes, size, pending);
     if negated {
@@ -128,7 +153,11 @@ fn add_pending(state: &mut State, bytes: &[u8], size: usize, pending: Pending)
     requires kept { IsKept size state.old }
     requires padded { size + BITS ≤ length bytes.now }
     ensures same { SamePlaces state.old state.new }
-    ensures listed { (test : ℕ → Bool) → HasBits state.old.listed.items test → HasBits state.new.listed.items (λ n. test n || is_listed (pending_items pending) (slice_index bytes.now (state.old.first + n))) }
+    ensures listed { (test : ℕ → Bool) → HasBits state.old.listed.items test
+        → HasBits state.new.listed.items
+        (λ n. test n
+        || is_listed (pending_items pending)
+        (slice_index bytes.now (state.old.first + n))) }
 {
     match pending {
         Pending::Nothing => {}
@@ -145,7 +174,10 @@ fn add_item(state: &mut State, bytes: &[u8], size: usize, pending: Pending, byte
     requires kept { IsKept size state.old }
     requires padded { size + BITS ≤ length bytes.now }
     ensures same { SamePlaces state.old state.new }
-    ensures items { (text : List ℕ) (negated : Bool) (items : List ℕ) → IsText text bytes.now size → IsOpen text negated state.old.first (pending_items pending) items state.old.listed.items → IsOpen text negated state.old.first (pending_items result) (items ++ byte ∷ []) state.new.listed.items }
+    ensures items { (text : List ℕ) (negated : Bool) (items : List ℕ) → IsText text bytes.now size
+        → IsOpen text negated state.old.first (pending_items pending) items state.old.listed.items
+        → IsOpen text negated state.old.first (pending_items result) (items ++ byte ∷ [])
+        state.new.listed.items }
 {
     match pending {
         Pending::Nothing => Pending::Low(byte),

@@ -1,4 +1,5 @@
-ghost use Rattle.std.specs.Prelude.{◌≡◌, ℕ, ◌*◌, ◌<◌, ◌≤◌, List, [], length, slice_index, vec_len, OnOk, IfSome};
+ghost use Rattle.std.specs.Prelude.{◌≡◌, ℕ, ◌*◌, ◌<◌, ◌≤◌, List, [], length, slice_index, vec_len};
+ghost use Rattle.std.specs.Prelude.{OnOk, IfSome};
 ghost use Rattle.std.specs.List.{AllByRecursion};
 ghost use Rattle.glob_match.specs.Runs.{IsRun, AreItems, AreRuns, GoOn};
 
@@ -60,7 +61,9 @@ fn earlier_end(bytes: &[u8], start: usize, later: usize, later_end: usize) -> us
 /// Finds the ends of runs of `*`.
 fn find_ends(ends: &mut Vec<usize>, bytes: &[u8]) -> Result<(), AllocError>
     requires { ends.old.items ≡ [] }
-    ensures { OnOk result ((block : ℕ) → block < vec_len ends.new → IsRun bytes.now (block * BLOCK) (slice_index ends.new.items block)) }
+    ensures { OnOk result
+        ((block : ℕ) → block < vec_len ends.new
+        → IsRun bytes.now (block * BLOCK) (slice_index ends.new.items block)) }
 {
     let count = bytes.len() / BLOCK;
     let mut end = count * BLOCK;
@@ -139,8 +142,8 @@ impl Runs {
         Ok(())
     }
 
-    /// Returns up to which place there are only `*`. Where no block is known, it is one before that if
-    /// there are more than a block has.
+    /// Returns up to which place there are only `*`. Where no block is known, it is one before that
+    /// if there are more than a block has.
     pub(crate) fn end(&self, bytes: &[u8], start: usize, to: usize) -> usize
         requires runs { AreRuns bytes.now self.now }
         requires order { start ≤ to }

@@ -1,5 +1,6 @@
 // What the items of a set list, from a place of a file on.
-ghost use Rattle.std.specs.Prelude.{◌≡◌, ◌≢◌, ◌||◌, ℕ, ◌+◌, ◌<◌, ◌≤◌, Bool, List, length, slice_index, IsTrue};
+ghost use Rattle.std.specs.Prelude.{◌≡◌, ◌≢◌, ◌||◌, ℕ, ◌+◌, ◌<◌, ◌≤◌, Bool, List, length};
+ghost use Rattle.std.specs.Prelude.{slice_index, IsTrue};
 ghost use Rattle.glob_pattern.specs.Pattern.{closing};
 ghost use Rattle.glob_match.specs.Words.{HasBits, is_between};
 ghost use Rattle.glob_match.specs.Runs.{AreItems};
@@ -82,7 +83,8 @@ impl Items {
         ensures start { result.start ≡ start }
         ensures end { result.end ≡ self.now.end }
         ensures words { length result.listed ≡ 4 }
-        ensures listed { (test : ℕ → Bool) → HasBits self.now.listed test → HasBits result.listed (λ byte. test byte || is_between low high byte) }
+        ensures listed { (test : ℕ → Bool) → HasBits self.now.listed test
+            → HasBits result.listed (λ byte. test byte || is_between low high byte) }
     {
         let mut listed = self.listed;
         add_range(&mut listed, all, low, high);

@@ -1,5 +1,7 @@
-ghost use Rattle.std.specs.Prelude.{◌≡◌, ℕ, ◌+◌, ◌*◌, ◌<◌, ◌≤◌, ◌&&◌, ◌||◌, not, nat_le, Bool, false, length, slice_index, vec_len, OnOk};
-ghost use Rattle.glob_match.specs.Words.{bit, is_between, HasBits, HasFront, HasPlaces, moved, any_up_to};
+ghost use Rattle.std.specs.Prelude.{◌≡◌, ℕ, ◌+◌, ◌*◌, ◌<◌, ◌≤◌, ◌&&◌, ◌||◌, not, nat_le, Bool};
+ghost use Rattle.std.specs.Prelude.{false, length, slice_index, vec_len, OnOk};
+ghost use Rattle.glob_match.specs.Words.{bit, is_between, HasBits, HasFront, HasPlaces, moved};
+ghost use Rattle.glob_match.specs.Words.{any_up_to};
 ghost use Rattle.glob_match.specs.States.{IsKept, SamePlaces};
 
 use crate::words::{BITS, add_range, clear, cut, fill, has, keep, negate};
@@ -24,7 +26,9 @@ fn mark(marks: &mut Vec<u8>, bytes: &[u8], count: usize, set: &[u64]) -> Result<
     requires within { count ≤ length bytes.now }
     requires set { length set.now ≡ 4 }
     ensures size { OnOk result (vec_len marks.new ≡ count) }
-    ensures marks { OnOk result ((test : ℕ → Bool) (n : ℕ) → HasBits set.now test → n < count → slice_index marks.new.items n ≡ bit (test (slice_index bytes.now n))) }
+    ensures marks { OnOk result
+        ((test : ℕ → Bool) (n : ℕ) → HasBits set.now test → n < count
+        → slice_index marks.new.items n ≡ bit (test (slice_index bytes.now n))) }
 {
     marks.truncate(0);
     for n in 0..count {
@@ -47,7 +51,9 @@ impl State {
         requires kept { IsKept size self.old }
         requires padded { size + BITS ≤ length bytes.now }
         ensures same { SamePlaces self.old self.new }
-        ensures listed { (test : ℕ → Bool) → HasBits self.old.listed.items test → HasBits self.new.listed.items (λ n. test n || is_between low high (slice_index bytes.now (self.old.first + n))) }
+        ensures listed { (test : ℕ → Bool) → HasBits self.old.listed.items test
+            → HasBits self.new.listed.items
+            (λ n. test n || is_between low high (slice_index bytes.now (self.old.first + n))) }
     {
         add_range(&mut self.listed, &bytes[self.first..], low, high);
     }
@@ -63,7 +69,10 @@ impl State {
         requires padded { size + BITS ≤ length bytes.now }
         requires set { length set.now ≡ 4 }
         ensures same { OnOk result (SamePlaces self.old self.new) }
-        ensures listed { OnOk result ((test list : ℕ → Bool) → HasBits self.old.listed.items test → HasBits set.now list → HasBits self.new.listed.items (λ n. test n || list (slice_index bytes.now (self.old.first + n)))) }
+        ensures listed { OnOk result
+            ((test list : ℕ → Bool) → HasBits self.old.listed.items test → HasBits set.now list
+            → HasBits self.new.listed.items
+            (λ n. test n || list (slice_index bytes.now (self.old.first + n)))) }
     {
         let count = self.listed.len() * BITS;
         mark(&mut self.marks, &bytes[self.first..], count, set)?;
@@ -75,7 +84,9 @@ impl State {
     fn list_marked(&mut self)
         requires { BITS * vec_len self.old.listed ≤ vec_len self.old.marks }
         ensures same { SamePlaces self.old self.new }
-        ensures listed { (test : ℕ → Bool) → HasBits self.old.listed.items test → HasBits self.new.listed.items (λ n. test n || is_between 1 1 (slice_index self.old.marks.items n)) }
+        ensures listed { (test : ℕ → Bool) → HasBits self.old.listed.items test
+            → HasBits self.new.listed.items
+            (λ n. test n || is_between 1 1 (slice_index self.old.marks.items n)) }
     {
         add_range(&mut self.listed, &self.marks, 1, 1);
     }
@@ -83,7 +94,8 @@ impl State {
     /// Lists the other bytes.
     pub(crate) fn list_others(&mut self)
         ensures same { SamePlaces self.old self.new }
-        ensures listed { (test : ℕ → Bool) → HasBits self.old.listed.items test → HasBits self.new.listed.items (λ n. not (test n)) }
+        ensures listed { (test : ℕ → Bool) → HasBits self.old.listed.items test
+            → HasBits self.new.listed.items (λ n. not (test n)) }
     {
         negate(&mut self.listed);
     }
@@ -93,7 +105,9 @@ impl State {
         requires low { self.old.first ≤ size }
         requires same { vec_len self.old.reached ≡ vec_len self.old.listed }
         ensures kept { IsKept size self.new }
-        ensures places { (test : ℕ → Bool) → HasFront self.old.first size self.old.reached.items test → HasPlaces self.new.first self.new.reached.items (λ n. nat_le n size && test n) }
+        ensures places { (test : ℕ → Bool)
+            → HasFront self.old.first size self.old.reached.items test
+            → HasPlaces self.new.first self.new.reached.items (λ n. nat_le n size && test n) }
     {
         let last = size - self.first;
         if last / BITS < self.reached.len() {
@@ -107,7 +121,11 @@ impl State {
     pub(crate) fn take(&mut self, size: usize)
         requires { IsKept size self.old }
         ensures kept { IsKept size self.new }
-        ensures places { (test list : ℕ → Bool) → HasPlaces self.old.first self.old.reached.items test → HasBits self.old.listed.items (λ n. list (self.old.first + n)) → HasPlaces self.new.first self.new.reached.items (λ n. nat_le n size && moved test list n) }
+        ensures places { (test list : ℕ → Bool)
+            → HasPlaces self.old.first self.old.reached.items test
+            → HasBits self.old.listed.items (λ n. list (self.old.first + n))
+            → HasPlaces self.new.first self.new.reached.items
+            (λ n. nat_le n size && moved test list n) }
     {
         if self.first == size {
             self.reached.truncate(0);
@@ -123,7 +141,10 @@ impl State {
     pub(crate) fn fill(&mut self, size: usize) -> Result<(), AllocError>
         requires { IsKept size self.old }
         ensures kept { OnOk result (IsKept size self.new) }
-        ensures places { OnOk result ((test : ℕ → Bool) → HasPlaces self.old.first self.old.reached.items test → HasPlaces self.new.first self.new.reached.items (λ n. nat_le n size && any_up_to test n)) }
+        ensures places { OnOk result
+            ((test : ℕ → Bool) → HasPlaces self.old.first self.old.reached.items test
+            → HasPlaces self.new.first self.new.reached.items
+            (λ n. nat_le n size && any_up_to test n)) }
     {
         let count = (size - self.first) / BITS + 1;
         self.reached.resize(count, 0)?;
@@ -136,7 +157,8 @@ impl State {
     /// Returns whether the end of the text is reached.
     pub(crate) fn has(&self, size: usize) -> bool
         requires { IsKept size self.now }
-        ensures { (test : ℕ → Bool) → HasPlaces self.now.first self.now.reached.items test → result ≡ test size }
+        ensures { (test : ℕ → Bool) → HasPlaces self.now.first self.now.reached.items test
+            → result ≡ test size }
     {
         let last = size - self.first;
         last / BITS < self.reached.len() && has(&self.reached, last)

@@ -1,5 +1,7 @@
 // Sets of numbers, as bits of words: the number n is the bit n % 64 of the word n / 64.
-ghost use Rattle.std.specs.Prelude.{◌≡◌, ℕ, suc, ◌+◌, ◌*◌, ◌/◌, ◌^◌, ◌<◌, ◌≤◌, ◌==◌, ◌&&◌, ◌||◌, not, nat_le, Bool, true, false, length, map, slice_index, IsTrue, ◌↔◌};
+ghost use Rattle.std.specs.Prelude.{◌≡◌, ℕ, suc, ◌+◌, ◌*◌, ◌/◌, ◌^◌, ◌<◌, ◌≤◌, ◌==◌, ◌&&◌, ◌||◌};
+ghost use Rattle.std.specs.Prelude.{not, nat_le, Bool, true, false, length, map, slice_index};
+ghost use Rattle.std.specs.Prelude.{IsTrue, ◌↔◌};
 ghost use Rattle.std.specs.Int.{bit_at};
 ghost use Rattle.std.specs.Simd.Lanes.{mask_l};
 ghost use Rattle.glob_match.specs.Words.{bit, is_between, HasBits, HasPlaces, any_up_to};
@@ -29,7 +31,8 @@ fn at_most(bytes: u8x64, high: u8) -> u64
 #[inline(always)]
 fn in_range(bytes: &[u8], low: u8, high: u8) -> u64
     requires { BITS ≤ length bytes.now }
-    ensures { (i : ℕ) → i < BITS → bit_at result i ≡ bit (is_between low high (slice_index bytes.now i)) }
+    ensures { (i : ℕ) → i < BITS
+        → bit_at result i ≡ bit (is_between low high (slice_index bytes.now i)) }
 {
     let bytes = u8x64::from_slice(bytes);
     at_least(bytes, low) & at_most(bytes, high)
@@ -47,7 +50,8 @@ pub(crate) fn clear(words: &mut [u64])
 /// Adds the places of the bytes in a range.
 pub(crate) fn add_range(words: &mut [u64], bytes: &[u8], low: u8, high: u8)
     requires { BITS * length words.old ≤ length bytes.now }
-    ensures { (test : ℕ → Bool) → HasBits words.old test → HasBits words.new (λ n. test n || is_between low high (slice_index bytes.now n)) }
+    ensures { (test : ℕ → Bool) → HasBits words.old test
+        → HasBits words.new (λ n. test n || is_between low high (slice_index bytes.now n)) }
 {
     for at in 0..words.len() {
         words[at] |= in_range(&bytes[at * BITS..], low, high);
@@ -66,7 +70,8 @@ pub(crate) fn negate(words: &mut [u64])
 /// Keeps the places that are listed too.
 pub(crate) fn keep(words: &mut [u64], listed: &[u64])
     requires { length words.old ≡ length listed.now }
-    ensures { (test list : ℕ → Bool) → HasBits words.old test → HasBits listed.now list → HasBits words.new (λ n. test n && list n) }
+    ensures { (test list : ℕ → Bool) → HasBits words.old test → HasBits listed.now list
+        → HasBits words.new (λ n. test n && list n) }
 {
     for at in 0..words.len() {
         words[at] &= listed[at];
@@ -92,7 +97,8 @@ pub(crate) fn fill(words: &mut [u64])
 /// Drops the places after this one, which the last word has.
 pub(crate) fn cut(words: &mut [u64], last: usize)
     requires { last / 64 + 1 ≡ length words.old }
-    ensures { (test : ℕ → Bool) → HasBits words.old test → HasBits words.new (λ n. nat_le n last && test n) }
+    ensures { (test : ℕ → Bool) → HasBits words.old test
+        → HasBits words.new (λ n. nat_le n last && test n) }
 {
     words[last / BITS] &= u64::MAX >> (63 - last % BITS);
 }
@@ -119,7 +125,9 @@ pub(crate) fn has(words: &[u64], place: usize) -> bool
 
 /// Moves all places down by one.
 pub(crate) fn shift_down(words: &mut [u64])
-    ensures { (test : ℕ → Bool) → HasBits words.old test → ((n : ℕ) → BITS * length words.old ≤ n → test n ≡ false) → HasBits words.new (λ n. test (suc n)) }
+    ensures { (test : ℕ → Bool) → HasBits words.old test
+        → ((n : ℕ) → BITS * length words.old ≤ n → test n ≡ false)
+        → HasBits words.new (λ n. test (suc n)) }
 {
     let mut next = 0;
     for at in (0..words.len()).rev() {
@@ -131,7 +139,9 @@ pub(crate) fn shift_down(words: &mut [u64])
 
 /// Adds all places before one that is there.
 pub(crate) fn fill_down(words: &mut [u64])
-    ensures { (test filled : ℕ → Bool) → HasBits words.old test → ((n : ℕ) → filled n ≡ (test n || filled (suc n))) → filled (BITS * length words.old) ≡ false → HasBits words.new filled }
+    ensures { (test filled : ℕ → Bool) → HasBits words.old test
+        → ((n : ℕ) → filled n ≡ (test n || filled (suc n)))
+        → filled (BITS * length words.old) ≡ false → HasBits words.new filled }
 {
     let mut found = false;
     for at in (0..words.len()).rev() {
@@ -148,7 +158,8 @@ pub(crate) fn fill_down(words: &mut [u64])
 /// Keeps the places of the bytes in a range.
 pub(crate) fn keep_range(words: &mut [u64], bytes: &[u8], low: u8, high: u8)
     requires { BITS * length words.old ≤ length bytes.now }
-    ensures { (test : ℕ → Bool) → HasBits words.old test → HasBits words.new (λ n. test n && is_between low high (slice_index bytes.now n)) }
+    ensures { (test : ℕ → Bool) → HasBits words.old test
+        → HasBits words.new (λ n. test n && is_between low high (slice_index bytes.now n)) }
 {
     for at in 0..words.len() {
         if words[at] != 0 {
@@ -160,7 +171,8 @@ pub(crate) fn keep_range(words: &mut [u64], bytes: &[u8], low: u8, high: u8)
 /// Keeps the places that aren't listed.
 pub(crate) fn keep_others(words: &mut [u64], listed: &[u64])
     requires { length words.old ≡ length listed.now }
-    ensures { (test list : ℕ → Bool) → HasBits words.old test → HasBits listed.now list → HasBits words.new (λ n. test n && not (list n)) }
+    ensures { (test list : ℕ → Bool) → HasBits words.old test → HasBits listed.now list
+        → HasBits words.new (λ n. test n && not (list n)) }
 {
     for at in 0..words.len() {
         words[at] &= !listed[at];
@@ -178,7 +190,9 @@ pub(crate) fn set_only(words: &mut [u64], place: usize)
 
 /// Returns the 64 bits from a place on. There is no place after the words.
 fn word_from(words: &[u64], place: usize) -> u64
-    ensures { (test : ℕ → Bool) → HasBits words.now test → ((n : ℕ) → BITS * length words.now ≤ n → test n ≡ false) → (i : ℕ) → i < BITS → bit_at result i ≡ bit (test (place + i)) }
+    ensures { (test : ℕ → Bool) → HasBits words.now test
+        → ((n : ℕ) → BITS * length words.now ≤ n → test n ≡ false) → (i : ℕ) → i < BITS
+        → bit_at result i ≡ bit (test (place + i)) }
 {
     let at = place / BITS;
     let low = place % BITS;
@@ -199,7 +213,9 @@ fn word_from(words: &[u64], place: usize) -> u64
 /// Returns whether some place is in both. The bits of the first words begin at a place.
 pub(crate) fn meet(reached: &[u64], first: usize, words: &[u64]) -> bool
     requires { first + BITS * length reached.now < 2 ^ 64 }
-    ensures { (some other : ℕ → Bool) → HasPlaces first reached.now some → HasBits words.now other → ((n : ℕ) → BITS * length words.now ≤ n → other n ≡ false) → (IsTrue result ↔ ((n : ℕ) × (some n ≡ true) × (other n ≡ true))) }
+    ensures { (some other : ℕ → Bool) → HasPlaces first reached.now some → HasBits words.now other
+        → ((n : ℕ) → BITS * length words.now ≤ n → other n ≡ false)
+        → (IsTrue result ↔ ((n : ℕ) × (some n ≡ true) × (other n ≡ true))) }
 {
     for at in 0..reached.len() {
         if reached[at] & word_from(words, first + at * BITS) != 0 {

@@ -1,6 +1,7 @@
 -- The parts of a pattern, as the code reads them. Each part takes a run of bytes or one byte.
 -- It belongs to the code: no public meaning rests on it.
-use Rattle.std.specs.Prelude.{ℕ, ◌==◌, ◌&&◌, ◌||◌, not, nat_le, Bool, true, false, List, [], ◌∷◌, ◌++◌, length, Option, Some, None, if◌then◌else◌}
+use Rattle.std.specs.Prelude.{ℕ, ◌==◌, ◌&&◌, ◌||◌, not, nat_le, Bool, true, false, List, [], ◌∷◌}
+use Rattle.std.specs.Prelude.{◌++◌, length, Option, Some, None, if◌then◌else◌}
 use Rattle.std.specs.Option.{option_map}
 use Rattle.glob_pattern.specs.Pattern.{star, question, bracket, closing, bang, dash}
 
@@ -15,7 +16,8 @@ is_listed [] byte = false
 -- Whether the set between two brackets has the byte.
 abbrev pub is_in_set : List ℕ → ℕ → Bool
 is_in_set [] byte = false
-is_in_set (first ∷ items) byte = if first == bang then not (is_listed items byte) else is_listed (first ∷ items) byte
+is_in_set (first ∷ items) byte =
+    if first == bang then not (is_listed items byte) else is_listed (first ∷ items) byte
 
 -- A part of a pattern takes any run of bytes, or one byte that passes a test.
 pub data Part : Type 0 where

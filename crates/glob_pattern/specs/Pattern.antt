@@ -42,7 +42,8 @@ Lists [] byte = ⊥
 -- don't list.
 abbrev pub Has : List ℕ → ℕ → Type 0
 Has [] byte = ⊥
-Has (first ∷ items) byte = MatchBool (first == bang) (¬ Lists items byte) (Lists (first ∷ items) byte)
+Has (first ∷ items) byte =
+    MatchBool (first == bang) (¬ Lists items byte) (Lists (first ∷ items) byte)
 
 -- The text matches the pattern, by the first element of the pattern. There is no rule for a `[`
 -- without a `]` after it: a pattern with one matches nothing.
@@ -50,10 +51,15 @@ pub data Matches : List ℕ → List ℕ → Type 0 where
   -- The empty pattern matches the empty text.
   empty : Matches [] []
   -- `*` matches any run of bytes, also the empty one.
-  run : (skipped : List ℕ) {pattern text : List ℕ} → Matches pattern text → Matches (star ∷ pattern) (skipped ++ text)
+  run : (skipped : List ℕ) {pattern text : List ℕ} → Matches pattern text
+      → Matches (star ∷ pattern) (skipped ++ text)
   -- `?` matches any one byte.
-  any : (byte : ℕ) {pattern text : List ℕ} → Matches pattern text → Matches (question ∷ pattern) (byte ∷ text)
+  any : (byte : ℕ) {pattern text : List ℕ} → Matches pattern text
+      → Matches (question ∷ pattern) (byte ∷ text)
   -- `[`, up to the next `]`, matches one byte of the set.
-  set : (inside : List ℕ) (byte : ℕ) {pattern text : List ℕ} → ¬ Contains inside closing → Has inside byte → Matches pattern text → Matches (bracket ∷ inside ++ closing ∷ pattern) (byte ∷ text)
+  set : (inside : List ℕ) (byte : ℕ) {pattern text : List ℕ} → ¬ Contains inside closing
+      → Has inside byte → Matches pattern text
+      → Matches (bracket ∷ inside ++ closing ∷ pattern) (byte ∷ text)
   -- Any other byte matches itself.
-  itself : (byte : ℕ) {pattern text : List ℕ} → byte ≢ star → byte ≢ question → byte ≢ bracket → Matches pattern text → Matches (byte ∷ pattern) (byte ∷ text)
+  itself : (byte : ℕ) {pattern text : List ℕ} → byte ≢ star → byte ≢ question → byte ≢ bracket
+      → Matches pattern text → Matches (byte ∷ pattern) (byte ∷ text)

@@ -24,7 +24,8 @@ pub aligned_above : (place align : ℕ) → place ≤ aligned place align
 unfolding aligned
 aligned_above place align = multiple_above place (greater 1 align) (greater_left 1 align)
 
-pub aligned_near : (place align bound : ℕ) → align ≤ bound → 1 ≤ bound → aligned place align ≤ place + bound
+pub aligned_near : (place align bound : ℕ) → align ≤ bound → 1 ≤ bound
+    → aligned place align ≤ place + bound
 unfolding aligned
 aligned_near place align bound small some =
     let step : greater 1 align ≤ bound = greater_bound 1 align bound some small in

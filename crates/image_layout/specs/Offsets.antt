@@ -1,7 +1,9 @@
 -- The places of a module's sections in its image. gABI 4, "Sections", sh_addralign and sh_flags.
 -- The three classes are the ones of the kernel's layout_sections, kernel/module/main.c. That each
 -- begins at a page is this project's choice.
-use Rattle.std.specs.Prelude.{ℕ, ◌+◌, ◌-◌, ◌*◌, ◌/◌, ◌==◌, ◌&&◌, nat_lt, not, Bool, true, false, if◌then◌else◌, List, [], ◌∷◌, map, length, filter, take, bit_and, slice_get}
+use Rattle.std.specs.Prelude.{ℕ, ◌+◌, ◌-◌, ◌*◌, ◌/◌, ◌==◌, ◌&&◌, nat_lt, not, Bool, true, false}
+use Rattle.std.specs.Prelude.{if◌then◌else◌, List, [], ◌∷◌, map, length, filter, take, bit_and}
+use Rattle.std.specs.Prelude.{slice_get}
 use Rattle.std.specs.List.{range_with_len}
 use Rattle.std.specs.Option.{option_map_or}
 use Rattle.elf_format.specs.declared.section.TheConstants.{SHF_WRITE, SHF_EXECINSTR, PAGE}
@@ -70,7 +72,8 @@ offset_after sections before s =
 -- The place of the section i in the image. A section that isn't in memory has 0.
 unfoldable pub offset : List Section → ℕ → ℕ
 offset sections i =
-    option_map_or (λ s. if s.kept then offset_after sections (take i sections) s else 0) (slice_get sections i) 0
+    option_map_or (λ s. if s.kept then offset_after sections (take i sections) s else 0)
+    (slice_get sections i) 0
 
 -- The places of all sections.
 unfoldable pub offsets : List Section → List ℕ

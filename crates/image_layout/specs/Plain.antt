@@ -1,5 +1,6 @@
 -- The bytes of the sections in the image, before any relocation. gABI 4, "Sections", SHT_NOBITS.
-use Rattle.std.specs.Prelude.{ℕ, ◌+◌, ◌-◌, ◌&&◌, nat_le, nat_lt, Bool, if◌then◌else◌, List, [], map, length, find, slice_index, slice_get}
+use Rattle.std.specs.Prelude.{ℕ, ◌+◌, ◌-◌, ◌&&◌, nat_le, nat_lt, Bool, if◌then◌else◌, List, [], map}
+use Rattle.std.specs.Prelude.{length, find, slice_index, slice_get}
 use Rattle.std.specs.List.{range_with_len}
 use Rattle.std.specs.Option.{option_map_or}
 use Rattle.elf_object.specs.Object.{FileObject}

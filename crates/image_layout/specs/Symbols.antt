@@ -1,6 +1,7 @@
 -- The addresses of symbols. gABI 4, "Symbol Table", st_value and st_shndx; x86-64 psABI,
 -- "Relocation", S.
-use Rattle.std.specs.Prelude.{ℕ, ◌+◌, ◌%◌, ◌^◌, ◌==◌, Bool, false, if◌then◌else◌, List, map, length, slice_index, slice_get}
+use Rattle.std.specs.Prelude.{ℕ, ◌+◌, ◌%◌, ◌^◌, ◌==◌, Bool, false, if◌then◌else◌, List, map, length}
+use Rattle.std.specs.Prelude.{slice_index, slice_get}
 use Rattle.std.specs.List.{range_with_len}
 use Rattle.std.specs.Option.{option_map_or}
 use Rattle.elf_format.specs.declared.symbol.TheConstants.{SHN_UNDEF}

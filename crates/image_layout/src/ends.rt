@@ -1,6 +1,7 @@
 // The ends of sections that are placed one after the other.
 
-ghost use Rattle.std.specs.Prelude.{◌≡◌, ◌+◌, ◌%◌, ◌<◌, ◌≤◌, ◌^◌, true, if◌then◌else◌, length, take};
+ghost use Rattle.std.specs.Prelude.{◌≡◌, ◌+◌, ◌%◌, ◌<◌, ◌≤◌, ◌^◌, true, if◌then◌else◌, length};
+ghost use Rattle.std.specs.Prelude.{take};
 ghost use Rattle.elf_object.specs.Places.{is_alignment};
 ghost use Rattle.image_layout.specs.Offsets.{aligned, end_of, is_in, of_class};
 
@@ -27,7 +28,10 @@ pub(crate) fn aligned(place: u128, align: u64) -> u128
 fn end_with(class: Class, section: &Section, end: u128) -> u128
     requires end { end < 2 ^ 110 }
     requires aligned { section.now.kept ≡ true → is_alignment section.now.align ≡ true }
-    ensures end { result ≡ (if is_in class section.now then aligned end section.now.align + section.now.size else end) }
+    ensures end { result
+        ≡ (if is_in class section.now
+        then aligned end section.now.align + section.now.size
+        else end) }
     ensures near { result ≤ end + 2 ^ 65 }
 {
     if !is_in(class, section) {

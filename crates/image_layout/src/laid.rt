@@ -5,7 +5,8 @@ ghost use Rattle.std.specs.Result.{result_err};
 ghost use Rattle.x86_relocate.specs.Patched.{patched};
 ghost use Rattle.image_layout.specs.Offsets.{image_size, offsets};
 ghost use Rattle.image_layout.specs.Laid.{laid, overflow, patch_of, patches};
-ghost use Rattle.image_layout.specs.declared.fault.LayFault.TheVariants.{Memory, Overflow as TooWide};
+ghost use Rattle.image_layout.specs.declared.fault.LayFault.TheVariants.{Memory};
+ghost use Rattle.image_layout.specs.declared.fault.LayFault.TheVariants.{Overflow as TooWide};
 ghost use Rattle.x86_relocate.specs.declared.patch.Overflow.{Overflow};
 
 use crate::plain::plain_image;
@@ -54,7 +55,8 @@ fn relocate(
     requires layout { layout.now ≡ offsets object.now.sections }
     requires addresses { length addresses.now ≡ length object.now.symbols }
     ensures overflow { result_err result ≡ overflow object.now base addresses.now }
-    ensures image { OnOk result (image.new ≡ patched image.old (patches object.now base addresses.now)) }
+    ensures image { OnOk result
+        (image.new ≡ patched image.old (patches object.now base addresses.now)) }
 {
     for i in 0..object.place_count() {
         let patch = patch_of(object, layout, base, addresses, object.place(i));
@@ -90,7 +92,10 @@ pub fn image_at(
     ensures image { IfOk result (λ image. image ≡ laid object.now base addresses.now) }
     ensures length { IfOk result (λ image. length image ≡ image_size object.now.sections) }
     ensures fits { OnOk result (overflow object.now base addresses.now ≡ None) }
-    ensures fault { IfErr result (λ e. (e ≡ Memory) ⊎ ((o : Overflow) × (overflow object.now base addresses.now ≡ Some o) × (e ≡ TooWide o))) }
+    ensures fault { IfErr result
+        (λ e. (e ≡ Memory)
+        ⊎ ((o : Overflow) × (overflow object.now base addresses.now ≡ Some o)
+        × (e ≡ TooWide o))) }
 {
     let mut image = plain_image(alloc, object, layout)?;
     relocate(&mut image, object, layout, base, addresses)?;

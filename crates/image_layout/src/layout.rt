@@ -1,8 +1,11 @@
 // The places of the sections, and the size of the image.
 
-ghost use Rattle.std.specs.Prelude.{ℕ, List, Some, take, slice_get, [], ◌≡◌, ◌+◌, ◌*◌, ◌%◌, ◌<◌, ◌≤◌, ◌^◌, true, length, IfOk, IfSome, if◌then◌else◌, slice_index};
+ghost use Rattle.std.specs.Prelude.{ℕ, List, Some, take, slice_get, [], ◌≡◌, ◌+◌, ◌*◌, ◌%◌, ◌<◌};
+ghost use Rattle.std.specs.Prelude.{◌≤◌, ◌^◌, true, length, IfOk, IfSome, if◌then◌else◌};
+ghost use Rattle.std.specs.Prelude.{slice_index};
 ghost use Rattle.elf_object.specs.Places.{is_alignment};
-ghost use Rattle.image_layout.specs.Offsets.{aligned, class_of, class_start, end_of, fixed_start, image_size, is_class, offset, offsets, variable_start};
+ghost use Rattle.image_layout.specs.Offsets.{aligned, class_of, class_start, end_of, fixed_start};
+ghost use Rattle.image_layout.specs.Offsets.{image_size, is_class, offset, offsets, variable_start};
 ghost use Rattle.image_layout.specs.Ends.{AreEnds, AreNear, end_in};
 ghost use Rattle.elf_sections.specs.declared.section.Section.{Section};
 ghost use Rattle.image_layout.specs.declared.class.Class.{Class};
@@ -107,7 +110,8 @@ impl Ends {
         requires aligned { is_alignment section.now.align ≡ true }
         ensures at { result ≡ aligned (end_in self.old (class_of section.now)) section.now.align }
         ensures ends { (class : Class) → end_in self.new class
-            ≡ (if is_class class (class_of section.now) then aligned (end_in self.old class) section.now.align + section.now.size
+            ≡ (if is_class class (class_of section.now)
+            then aligned (end_in self.old class) section.now.align + section.now.size
             else end_in self.old class) }
     {
         match class_of(section) {

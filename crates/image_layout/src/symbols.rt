@@ -2,7 +2,8 @@
 
 ghost use Rattle.std.specs.Prelude.{◌≡◌, ◌<◌, true, length, IfOk};
 ghost use Rattle.image_layout.specs.Offsets.{offsets};
-ghost use Rattle.image_layout.specs.Symbols.{addresses as addresses_spec, is_placed, symbol_address};
+ghost use Rattle.image_layout.specs.Symbols.{addresses as addresses_spec, is_placed};
+ghost use Rattle.image_layout.specs.Symbols.{symbol_address};
 
 use crate::Layout;
 use elf_format::SHN_UNDEF;

@@ -11,4 +11,5 @@ no_length (x ∷ es) e = absurd (omega arith)
 
 pub entries-empty : entries (empty {X = List Value} {R = slice_cmp nat_cmp}) ≡ []
 entries-empty =
-    no_length _ (sym (len-entries (empty {X = List Value} {R = slice_cmp nat_cmp})) ∙ len-empty (slice_cmp nat_cmp) (List Value))
+    no_length _ (sym (len-entries (empty {X = List Value} {R = slice_cmp nat_cmp}))
+    ∙ len-empty (slice_cmp nat_cmp) (List Value))

@@ -1,13 +1,16 @@
 -- What a reader refuses: the first test that fails, in the order the nodes are visited in. The root
 -- is visited first. After a node come its children, in rising order of their bytes, each with all
 -- that is below it before the next. kmod's index format 2.1.
-use Rattle.std.specs.Prelude.{ℕ, zero, suc, ◌+◌, ◌==◌, nat_eq, nat_lt, nat_le, Bool, true, false, not, ◌&&◌, ◌||◌, List, [], ◌∷◌, length, drop, Option, Some, None, if◌then◌else◌}
+use Rattle.std.specs.Prelude.{ℕ, zero, suc, ◌+◌, ◌==◌, nat_eq, nat_lt, nat_le, Bool, true, false}
+use Rattle.std.specs.Prelude.{not, ◌&&◌, ◌||◌, List, [], ◌∷◌, length, drop, Option, Some, None}
+use Rattle.std.specs.Prelude.{if◌then◌else◌}
 use Rattle.std.specs.List.{list_any, flat_map}
 use Rattle.km_names.specs.First.{first}
 use Rattle.km_names.specs.Number.{be}
 use Rattle.index_format.specs.declared.numbers.TheConstants.{MAGIC, VERSION, FIRST_PLACE}
 use Rattle.index_format.specs.Link.{place_of, has_prefix, has_values, has_children}
-use Rattle.index_format.specs.Node.{is_nul, root, after_text, after_prefix, first_byte, last_byte, children_size, children, after_children}
+use Rattle.index_format.specs.Node.{is_nul, root, after_text, after_prefix, first_byte, last_byte}
+use Rattle.index_format.specs.Node.{children_size, children, after_children}
 
 -- Why a file is refused. A node is named by its place in the file.
 pub data Fault : Type 0 where
@@ -28,14 +31,17 @@ unfoldable pub children_fit : List ℕ → ℕ → Bool
 children_fit b link =
     not (has_children link)
     || (nat_le 2 (length (after_prefix b link))
-    && (nat_lt 0 (first_byte b link) && nat_le (first_byte b link) (last_byte b link) && nat_le (last_byte b link) 127
+    && (nat_lt 0 (first_byte b link)
+    && nat_le (first_byte b link) (last_byte b link)
+    && nat_le (last_byte b link) 127
     && nat_le (children_size b link) (length (after_prefix b link))))
 
 -- Whether this many values are whole.
 unfoldable pub whole_values : ℕ → List ℕ → Bool
 whole_values zero bytes = true
 whole_values (suc n) bytes =
-    nat_le 4 (length bytes) && (has_nul (drop 4 bytes) && whole_values n (after_text (drop 4 bytes)))
+    nat_le 4 (length bytes)
+    && (has_nul (drop 4 bytes) && whole_values n (after_text (drop 4 bytes)))
 
 -- Whether the count of values and each of them is whole.
 unfoldable pub values_fit : List ℕ → ℕ → Bool
@@ -68,7 +74,8 @@ arrival_fault b seen a =
 -- The tests of each visit, with the places of the visits before it.
 unfoldable pub arrival_faults : List ℕ → List ℕ → List Arrival → List (Option Fault)
 arrival_faults b seen [] = []
-arrival_faults b seen (a ∷ rest) = arrival_fault b seen a ∷ arrival_faults b (place_of a.link ∷ seen) rest
+arrival_faults b seen (a ∷ rest) =
+    arrival_fault b seen a ∷ arrival_faults b (place_of a.link ∷ seen) rest
 
 -- The visits to a node and to all nodes below it, in the reader's order, down to a depth. There are
 -- none below a node that isn't below the one before it, since the reader stops there. So the places
@@ -77,7 +84,9 @@ unfoldable pub arrivals : List ℕ → ℕ → Arrival → List Arrival
 arrivals b zero a = a ∷ []
 arrivals b (suc depth) a =
     a ∷ (if nat_lt (place_of a.link) a.above
-    then flat_map (λ link. arrivals b depth (record { above = place_of a.link; is_root = false; link = link })) (children b a.link)
+    then flat_map
+    (λ link. arrivals b depth
+    (record { above = place_of a.link; is_root = false; link = link })) (children b a.link)
     else [])
 
 -- The visit to the root, which may be anywhere in the file.

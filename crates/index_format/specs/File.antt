@@ -65,7 +65,10 @@ written start (Branch byte prefix values below beside) =
     let at = start + length under.bytes in
     let node = node_bytes prefix under.links values in
     let more = written (at + length node) beside in
-    record { bytes = under.bytes ++ node ++ more.bytes; links = (byte, link_to at prefix under.links values) ∷ more.links }
+    record {
+      bytes = under.bytes ++ node ++ more.bytes;
+      links = (byte, link_to at prefix under.links values) ∷ more.links;
+    }
 
 -- A file: the magic, the version, the offset of the root, and the nodes. The root is the only node
 -- of its row.

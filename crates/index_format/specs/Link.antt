@@ -1,6 +1,7 @@
 -- The offsets of an index, which lead to nodes. kmod's index format 2.1, "node offset".
 use Rattle.std.specs.Prelude.{ℕ, ◌+◌, ◌*◌, ◌==◌, Bool, not, List, [], ◌∷◌, bit_and}
-use Rattle.index_format.specs.declared.numbers.TheConstants.{PLACE_MASK, HAS_PREFIX, HAS_VALUES, HAS_CHILDREN}
+use Rattle.index_format.specs.declared.numbers.TheConstants.{PLACE_MASK, HAS_PREFIX, HAS_VALUES}
+use Rattle.index_format.specs.declared.numbers.TheConstants.{HAS_CHILDREN}
 
 -- The place of the node in the file, in bytes: the low 28 bits.
 abbrev pub place_of : ℕ → ℕ

@@ -21,7 +21,8 @@ pub record IsListing (values : List ℕ → List Value) (ps : List KeyValue) : T
   pub each : (key : List ℕ) → under key ps ≡ values key
 
 -- The pairs are the values of all keys that a predicate selects, and of no other.
-pub record IsSelection (Selects : List ℕ → Type 0) (values : List ℕ → List Value) (ps : List KeyValue) : Type 0 where
+pub record IsSelection (Selects : List ℕ → Type 0) (values : List ℕ → List Value)
+    (ps : List KeyValue) : Type 0 where
   pub keys : IsSortedByKey (λ p. p.0) (slice_cmp nat_cmp) ps
   pub each : (key : List ℕ) → Selects key → under key ps ≡ values key
   pub others : (key : List ℕ) → ¬ Selects key → under key ps ≡ []

@@ -1,7 +1,8 @@
 -- The fields of a node, in their order: a prefix that ends in a NUL, the children, the values. A
 -- field is present if its flag is set in the offset that leads to the node. kmod's index format
 -- 2.1, "node".
-use Rattle.std.specs.Prelude.{ℕ, zero, suc, ◌+◌, ◌*◌, ◌-◌, ◌==◌, nat_le, Bool, ◌&&◌, List, [], ◌∷◌, drop, slice_index, Option, Some, None, if◌then◌else◌}
+use Rattle.std.specs.Prelude.{ℕ, zero, suc, ◌+◌, ◌*◌, ◌-◌, ◌==◌, nat_le, Bool, ◌&&◌, List, [], ◌∷◌}
+use Rattle.std.specs.Prelude.{drop, slice_index, Option, Some, None, if◌then◌else◌}
 use Rattle.std.specs.List.{before_first, after_first, filter_map}
 use Rattle.km_names.specs.Number.{be}
 use Rattle.index_format.specs.Map.{Value}
@@ -27,7 +28,8 @@ prefix b link = if has_prefix link then text (drop (place_of link) b) else []
 
 -- The bytes after the prefix.
 unfoldable pub after_prefix : List ℕ → ℕ → List ℕ
-after_prefix b link = if has_prefix link then after_text (drop (place_of link) b) else drop (place_of link) b
+after_prefix b link =
+    if has_prefix link then after_text (drop (place_of link) b) else drop (place_of link) b
 
 -- The range of bytes that a node with children has offsets for: its first and its last byte.
 unfoldable pub first_byte : List ℕ → ℕ → ℕ
@@ -59,18 +61,22 @@ upward start (suc n) = start ∷ upward (start + 1) n
 -- The offsets of the node's children, in rising order of their bytes.
 unfoldable pub children : List ℕ → ℕ → List ℕ
 children b link =
-    filter_map (child b link) (upward (first_byte b link) (last_byte b link - first_byte b link + 1))
+    filter_map (child b link)
+    (upward (first_byte b link) (last_byte b link - first_byte b link + 1))
 
 -- The bytes after the children.
 unfoldable pub after_children : List ℕ → ℕ → List ℕ
 after_children b link =
-    if has_children link then drop (children_size b link) (after_prefix b link) else after_prefix b link
+    if has_children link
+    then drop (children_size b link) (after_prefix b link)
+    else after_prefix b link
 
 -- This many values from the front of the bytes. Each has a priority of four bytes, and a text with
 -- its NUL.
 unfoldable pub values_in : ℕ → List ℕ → List Value
 values_in zero bytes = []
-values_in (suc n) bytes = (be bytes 0 4, text (drop 4 bytes)) ∷ values_in n (after_text (drop 4 bytes))
+values_in (suc n) bytes =
+    (be bytes 0 4, text (drop 4 bytes)) ∷ values_in n (after_text (drop 4 bytes))
 
 -- The values of the node: a count of four bytes, and that many values.
 unfoldable pub values : List ℕ → ℕ → List Value

@@ -1,6 +1,7 @@
 -- The tree of an index, as kmod's depmod writes it: each node except the root has the longest
 -- prefix that is common to all keys below it.
-use Rattle.std.specs.Prelude.{◌≡◌, ℕ, zero, suc, ◌==◌, List, [], ◌∷◌, length, drop, map, max, if◌then◌else◌}
+use Rattle.std.specs.Prelude.{◌≡◌, ℕ, zero, suc, ◌==◌, List, [], ◌∷◌, length, drop, map, max}
+use Rattle.std.specs.Prelude.{if◌then◌else◌}
 use Rattle.std.specs.Ordering.{nat_cmp}
 use Rattle.std.specs.Cmp.Lexicographic.{slice_cmp}
 use Rattle.std.specs.declared.cmp.Ordering.TheVariants.{Less}
@@ -14,7 +15,8 @@ Entry = List ℕ × List Value
 -- nodes below it, and then the nodes beside it.
 pub data Forest : Type 0 where
   End : Forest
-  Branch : (byte : ℕ) (prefix : List ℕ) (values : List Value) (below : Forest) (beside : Forest) → Forest
+  Branch : (byte : ℕ) (prefix : List ℕ) (values : List Value) (below : Forest) (beside : Forest)
+      → Forest
 
 -- The common front of two keys.
 abbrev pub common : List ℕ → List ℕ → List ℕ
@@ -47,7 +49,8 @@ ending ((byte ∷ key, values) ∷ es) = []
 -- otherwise in a group of its own.
 abbrev pub grouped : ℕ → Entry → List (ℕ × List Entry) → List (ℕ × List Entry)
 grouped byte e [] = (byte, e ∷ []) ∷ []
-grouped byte e ((c, es) ∷ groups) = if byte == c then (c, e ∷ es) ∷ groups else (byte, e ∷ []) ∷ (c, es) ∷ groups
+grouped byte e ((c, es) ∷ groups) =
+    if byte == c then (c, e ∷ es) ∷ groups else (byte, e ∷ []) ∷ (c, es) ∷ groups
 
 -- The entries whose key doesn't end here, grouped by the next byte of the key, which is removed.
 -- The entries are in the order of their keys, so the ones with the same byte are neighbors.

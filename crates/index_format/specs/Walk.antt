@@ -1,7 +1,8 @@
 -- The walk of a key through an index. At a node the prefix is removed from the key. If nothing is
 -- left the walk ends there; otherwise the first byte that is left picks a child and is removed.
 -- kmod's index format 2.1, "searching".
-use Rattle.std.specs.Prelude.{ℕ, zero, suc, ◌+◌, nat_eq, List, [], ◌∷◌, length, drop, Option, Some, None, if◌then◌else◌}
+use Rattle.std.specs.Prelude.{ℕ, zero, suc, ◌+◌, nat_eq, List, [], ◌∷◌, length, drop, Option, Some}
+use Rattle.std.specs.Prelude.{None, if◌then◌else◌}
 use Rattle.std.specs.List.{starts_with}
 use Rattle.index_format.specs.Map.{Value}
 use Rattle.index_format.specs.Node.{root, prefix, child, values}
@@ -25,7 +26,9 @@ onward b link (byte ∷ rest) = enters (child b link byte) rest
 
 unfoldable pub step : List ℕ → ℕ → List ℕ → Step
 step b link key =
-    if starts_with nat_eq key (prefix b link) then onward b link (drop (length (prefix b link)) key) else Lost
+    if starts_with nat_eq key (prefix b link)
+    then onward b link (drop (length (prefix b link)) key)
+    else Lost
 
 -- Cases on a step.
 abbrev pub by_step : {A : Type 0} → Step → A → (ℕ → List ℕ → A) → A → A

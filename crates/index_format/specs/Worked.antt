@@ -47,11 +47,14 @@ five_keys_file =
     -- 58: the value of "one"
     ++ (0 ∷ 0 ∷ 0 ∷ 1 ∷ 0 ∷ 0 ∷ 0 ∷ 4 ∷ 0x78 ∷ 0 ∷ [])
     -- 68: "n", "c" to "e" and the value of "on"
-    ++ (0x6e ∷ 0 ∷ 0x63 ∷ 0x65 ∷ 0xc0 ∷ 0 ∷ 0 ∷ 0x2e ∷ 0 ∷ 0 ∷ 0 ∷ 0 ∷ 0x40 ∷ 0 ∷ 0 ∷ 0x3a ∷ 0 ∷ 0 ∷ 0 ∷ 1 ∷ 0 ∷ 0 ∷ 0 ∷ 2 ∷ 0x78 ∷ 0 ∷ [])
+    ++ (0x6e ∷ 0 ∷ 0x63 ∷ 0x65 ∷ 0xc0 ∷ 0 ∷ 0 ∷ 0x2e ∷ 0 ∷ 0 ∷ 0 ∷ 0 ∷ 0x40 ∷ 0 ∷ 0 ∷ 0x3a ∷ 0 ∷ 0
+    ∷ 0 ∷ 1 ∷ 0 ∷ 0 ∷ 0 ∷ 2 ∷ 0x78 ∷ 0 ∷ [])
     -- 94: the root, "a" to "o", with no child for the thirteen bytes between them
     ++ (0x61 ∷ 0x6f ∷ 0x20 ∷ 0 ∷ 0 ∷ 0x24 ∷ [])
-    ++ (0 ∷ 0 ∷ 0 ∷ 0 ∷ 0 ∷ 0 ∷ 0 ∷ 0 ∷ 0 ∷ 0 ∷ 0 ∷ 0 ∷ 0 ∷ 0 ∷ 0 ∷ 0 ∷ 0 ∷ 0 ∷ 0 ∷ 0 ∷ 0 ∷ 0 ∷ 0 ∷ 0 ∷ 0 ∷ 0 ∷ [])
-    ++ (0 ∷ 0 ∷ 0 ∷ 0 ∷ 0 ∷ 0 ∷ 0 ∷ 0 ∷ 0 ∷ 0 ∷ 0 ∷ 0 ∷ 0 ∷ 0 ∷ 0 ∷ 0 ∷ 0 ∷ 0 ∷ 0 ∷ 0 ∷ 0 ∷ 0 ∷ 0 ∷ 0 ∷ 0 ∷ 0 ∷ [])
+    ++ (0 ∷ 0 ∷ 0 ∷ 0 ∷ 0 ∷ 0 ∷ 0 ∷ 0 ∷ 0 ∷ 0 ∷ 0 ∷ 0 ∷ 0 ∷ 0 ∷ 0 ∷ 0 ∷ 0 ∷ 0 ∷ 0 ∷ 0 ∷ 0 ∷ 0 ∷ 0
+    ∷ 0 ∷ 0 ∷ 0 ∷ [])
+    ++ (0 ∷ 0 ∷ 0 ∷ 0 ∷ 0 ∷ 0 ∷ 0 ∷ 0 ∷ 0 ∷ 0 ∷ 0 ∷ 0 ∷ 0 ∷ 0 ∷ 0 ∷ 0 ∷ 0 ∷ 0 ∷ 0 ∷ 0 ∷ 0 ∷ 0 ∷ 0
+    ∷ 0 ∷ 0 ∷ 0 ∷ [])
     ++ (0xe0 ∷ 0 ∷ 0 ∷ 0x44 ∷ [])
 
 -- Two modules, one depending on the other, with their lines of modules.dep.
@@ -77,7 +80,9 @@ two_modules_file =
 -- The root at 12 has a child that is after it, at 18.
 abbrev pub child_after_parent : List ℕ
 child_after_parent =
-    head ++ (0x20 ∷ 0 ∷ 0 ∷ 0x0c ∷ 0x61 ∷ 0x61 ∷ 0x40 ∷ 0 ∷ 0 ∷ 0x12 ∷ 0 ∷ 0 ∷ 0 ∷ 1 ∷ 0 ∷ 0 ∷ 0 ∷ 0 ∷ 0x78 ∷ 0 ∷ [])
+    head
+    ++ (0x20 ∷ 0 ∷ 0 ∷ 0x0c ∷ 0x61 ∷ 0x61 ∷ 0x40 ∷ 0 ∷ 0 ∷ 0x12 ∷ 0 ∷ 0 ∷ 0 ∷ 1 ∷ 0 ∷ 0 ∷ 0 ∷ 0
+    ∷ 0x78 ∷ 0 ∷ [])
 
 -- Two offsets lead to the node at 12.
 abbrev pub node_reached_twice : List ℕ

@@ -4,8 +4,14 @@ ghost use Rattle.index_format.specs.Walk.{at, visits};
 ghost use Rattle.index_format.specs.Check.{index_fault, BadNode, Revisited, BadMagic, BadVersion};
 ghost use Rattle.index_format.specs.Nodes.{node_count};
 ghost use Rattle.index_format.specs.File.{file};
-ghost use Rattle.index_format.specs.Worked.{head, no_keys, no_keys_file, five_keys, five_keys_file, two_modules, two_modules_file, child_after_parent, node_reached_twice, value_cut_off};
-ghost use Rattle.index_format.specs.Worked.{child_at_parent, child_without_field, byte_over_127, byte_0, range_turned, offset_cut_off, prefix_cut_off, count_cut_off, root_at_11, bit_28, reached_without_field, grandchild_at_10, version_2_0, three_bytes};
+ghost use Rattle.index_format.specs.Worked.{head, no_keys, no_keys_file, five_keys, five_keys_file};
+ghost use Rattle.index_format.specs.Worked.{two_modules, two_modules_file, child_after_parent};
+ghost use Rattle.index_format.specs.Worked.{node_reached_twice, value_cut_off};
+ghost use Rattle.index_format.specs.Worked.{child_at_parent, child_without_field, byte_over_127};
+ghost use Rattle.index_format.specs.Worked.{byte_0, range_turned, offset_cut_off, prefix_cut_off};
+ghost use Rattle.index_format.specs.Worked.{count_cut_off, root_at_11, bit_28};
+ghost use Rattle.index_format.specs.Worked.{reached_without_field, grandchild_at_10, version_2_0};
+ghost use Rattle.index_format.specs.Worked.{three_bytes};
 
 /// States the files of three small maps: one without keys, one with five keys that begin alike in
 /// part, and one with the dependencies of two modules.

@@ -1,12 +1,16 @@
 -- The children of a node, and whether it is sound.
-use Rattle.std.proofs.Common.{◌≡◌, refl, sym, ap, ◌∙◌, ◌⊎◌, inl, inr, ⊎_elim, ℕ, zero, suc, ◌+◌, ◌-◌, ◌*◌, ◌<◌, ◌≤◌, true, false, cond, ◌&&◌, ◌||◌, nat_le, List, [], ◌∷◌, length, drop, get_or, filter_map, Option, None, arith}
-use Rattle.std.proofs.lemmas.Bool.{le-leb, lt-leb, leb-true, ltb-true, and_parts, and_from, and_left, and_right, and_cases, or_from}
+use Rattle.std.proofs.Common.{◌≡◌, refl, sym, ap, ◌∙◌, ◌⊎◌, inl, inr, ⊎_elim, ℕ, zero, suc, ◌+◌}
+use Rattle.std.proofs.Common.{◌-◌, ◌*◌, ◌<◌, ◌≤◌, true, false, cond, ◌&&◌, ◌||◌, nat_le, List, []}
+use Rattle.std.proofs.Common.{◌∷◌, length, drop, get_or, filter_map, Option, None, arith}
+use Rattle.std.proofs.lemmas.Bool.{le-leb, lt-leb, leb-true, ltb-true, and_parts, and_from}
+use Rattle.std.proofs.lemmas.Bool.{and_left, and_right, and_cases, or_from}
 use Rattle.std.proofs.lemmas.List.{get_or-drop, length-drop}
 use Rattle.std.specs.List.{cons_option}
 use Rattle.km_names.specs.Number.{be}
 use Rattle.index_format.specs.declared.numbers.TheConstants.{FIRST_PLACE}
 use Rattle.index_format.specs.Link.{place_of, has_prefix, has_values, has_children}
-use Rattle.index_format.specs.Node.{after_prefix, first_byte, last_byte, present, child, upward, children}
+use Rattle.index_format.specs.Node.{after_prefix, first_byte, last_byte, present, child, upward}
+use Rattle.index_format.specs.Node.{children}
 use Rattle.index_format.specs.Check.{prefix_fits, children_fit, values_fit, Arrival, is_sound}
 use Rattle.index_format.proofs.BigEndian.{be-drop}
 use Rattle.index_nodes.specs.Pending.{links_at}
@@ -19,7 +23,9 @@ none_of f (x ∷ xs) h = ap (λ o. cons_option o (filter_map f xs)) (h x) ∙ no
 pub no_children : (b : List ℕ) (link : ℕ) → has_children link ≡ false → children b link ≡ []
 unfolding children child
 no_children b link h =
-    none_of (child b link) _ (λ c. ap (λ t. cond (t && (nat_le (first_byte b link) c && nat_le c (last_byte b link))) (present (be (after_prefix b link) (2 + 4 * (c - first_byte b link)) 4)) None) h)
+    none_of (child b link) _
+    (λ c. ap (λ t. cond (t && (nat_le (first_byte b link) c && nat_le c (last_byte b link)))
+    (present (be (after_prefix b link) (2 + 4 * (c - first_byte b link)) 4)) None) h)
 
 -- what holds of the range of a node's children, which stand from a place on
 pub record HasRange (b : List ℕ) (link start : ℕ) : Type 0 where
@@ -30,21 +36,30 @@ pub record HasRange (b : List ℕ) (link start : ℕ) : Type 0 where
   pub positive : 0 < get_or b start 0
   pub room : start + 2 + 4 * (get_or b (start + 1) 0 - get_or b start 0 + 1) ≤ length b
 
-range_parts : (rest : List ℕ) (first last : ℕ) → range_fits rest first last ≡ true → (0 < first) × (first ≤ last) × (last ≤ 127) × (2 + 4 * (last - first + 1) ≤ length rest)
+range_parts : (rest : List ℕ) (first last : ℕ) → range_fits rest first last ≡ true
+    → (0 < first) × (first ≤ last) × (last ≤ 127) × (2 + 4 * (last - first + 1) ≤ length rest)
 range_parts rest first last h =
     let two = and_parts _ _ h in
     let size = and_parts _ _ two.1 in
     let top = and_parts _ _ size.0 in
-    let order = and_parts _ _ top.0 in
-    (ltb-true 0 first order.0, leb-true first last order.1, leb-true last 127 top.1, leb-true (2 + 4 * (last - first + 1)) (length rest) size.1)
+    let order = and_parts _ _ top.0 in (
+      ltb-true 0 first order.0,
+      leb-true first last order.1,
+      leb-true last 127 top.1,
+      leb-true (2 + 4 * (last - first + 1)) (length rest) size.1,
+    )
 
-pub range_of : (b : List ℕ) (link start : ℕ) → has_children link ≡ true → start ≤ length b → drop start b ≡ after_prefix b link → children_fit b link ≡ true → HasRange b link start
+pub range_of : (b : List ℕ) (link start : ℕ) → has_children link ≡ true → start ≤ length b
+    → drop start b ≡ after_prefix b link → children_fit b link ≡ true → HasRange b link start
 unfolding first_byte last_byte
 range_of b link start h within is fit =
     let zero_is : start + 0 ≡ start = omega arith in
-    let first : get_or (drop start b) 0 0 ≡ get_or b start 0 = get_or-drop start b 0 0 ∙ ap (λ k. get_or b k 0) zero_is in
+    let first : get_or (drop start b) 0 0 ≡ get_or b start 0
+    = get_or-drop start b 0 0 ∙ ap (λ k. get_or b k 0) zero_is in
     let last : get_or (drop start b) 1 0 ≡ get_or b (start + 1) 0 = get_or-drop start b 1 0 in
-    let parts = range_parts (drop start b) (get_or (drop start b) 0 0) (get_or (drop start b) 1 0) (sym (children_test b link (drop start b) h is) ∙ fit) in
+    let parts
+    = range_parts (drop start b) (get_or (drop start b) 0 0) (get_or (drop start b) 1 0)
+    (sym (children_test b link (drop start b) h is) ∙ fit) in
     record {
       first = sym (ap (λ r. get_or r 0 0) is) ∙ first;
       last = sym (ap (λ r. get_or r 1 0) is) ∙ last;
@@ -55,24 +70,36 @@ range_of b link start h within is fit =
     }
 
 -- the child for a byte of the range
-child_in : (b : List ℕ) (link start first last k : ℕ) → has_children link ≡ true → drop start b ≡ after_prefix b link → first_byte b link ≡ first → last_byte b link ≡ last → first + k ≤ last → child b link (first + k) ≡ present (be b (start + 2 + 4 * k) 4)
+child_in : (b : List ℕ) (link start first last k : ℕ) → has_children link ≡ true
+    → drop start b ≡ after_prefix b link → first_byte b link ≡ first → last_byte b link ≡ last
+    → first + k ≤ last → child b link (first + k) ≡ present (be b (start + 2 + 4 * k) 4)
 unfolding child
 child_in b link start first last k h is f l le =
     let back : start + (2 + 4 * (first + k - first)) ≡ start + 2 + 4 * k = omega arith in
-    (λ i. cond (h i && (nat_le (f i) (first + k) && nat_le (first + k) (l i))) (present (be (sym is i) (2 + 4 * (first + k - f i)) 4)) None)
-    ∙ (λ i. cond (le-leb first (first + k) (omega arith) i && le-leb (first + k) last le i) (present (be (drop start b) (2 + 4 * (first + k - first)) 4)) None)
+    (λ i. cond (h i && (nat_le (f i) (first + k) && nat_le (first + k) (l i)))
+    (present (be (sym is i) (2 + 4 * (first + k - f i)) 4)) None)
+    ∙ (λ i. cond (le-leb first (first + k) (omega arith) i && le-leb (first + k) last le i)
+    (present (be (drop start b) (2 + 4 * (first + k - first)) 4)) None)
     ∙ ap present (be-drop b start (2 + 4 * (first + k - first)) 4 ∙ ap (λ p. be b p 4) back)
 
-links_from : (b : List ℕ) (link start first last : ℕ) → has_children link ≡ true → drop start b ≡ after_prefix b link → first_byte b link ≡ first → last_byte b link ≡ last → (n k : ℕ) → k + n ≡ last - first + 1 → first ≤ last → filter_map (child b link) (upward (first + k) n) ≡ links_at b (start + 2 + 4 * k) n
+links_from : (b : List ℕ) (link start first last : ℕ) → has_children link ≡ true
+    → drop start b ≡ after_prefix b link → first_byte b link ≡ first → last_byte b link ≡ last
+    → (n k : ℕ) → k + n ≡ last - first + 1 → first ≤ last
+    → filter_map (child b link) (upward (first + k) n) ≡ links_at b (start + 2 + 4 * k) n
 unfolding links_at
 links_from b link start first last h is f l zero k e order = refl
 links_from b link start first last h is f l (suc n) k e order =
     let next : first + k + 1 ≡ first + (k + 1) = omega arith in
     let on : start + 2 + 4 * (k + 1) ≡ start + 2 + 4 * k + 4 = omega arith in
-    (λ i. cons_option (child_in b link start first last k h is f l (omega (arith, e, order)) i) (filter_map (child b link) (upward (next i) n)))
-    ∙ ap (cons_option (present (be b (start + 2 + 4 * k) 4))) (links_from b link start first last h is f l n (k + 1) (omega (arith, e)) order ∙ ap (λ p. links_at b p n) on)
+    (λ i. cons_option (child_in b link start first last k h is f l (omega (arith, e, order)) i)
+    (filter_map (child b link) (upward (next i) n)))
+    ∙ ap (cons_option (present (be b (start + 2 + 4 * k) 4)))
+    (links_from b link start first last h is f l n (k + 1) (omega (arith, e)) order
+    ∙ ap (λ p. links_at b p n) on)
 
-pub children_links : (b : List ℕ) (link start : ℕ) → has_children link ≡ true → drop start b ≡ after_prefix b link → HasRange b link start → children b link ≡ links_at b (start + 2) (get_or b (start + 1) 0 - get_or b start 0 + 1)
+pub children_links : (b : List ℕ) (link start : ℕ) → has_children link ≡ true
+    → drop start b ≡ after_prefix b link → HasRange b link start
+    → children b link ≡ links_at b (start + 2) (get_or b (start + 1) 0 - get_or b start 0 + 1)
 unfolding children
 children_links b link start h is r =
     let first = get_or b start 0 in
@@ -81,36 +108,54 @@ children_links b link start h is r =
     let from : first ≡ first + 0 = omega arith in
     (λ i. filter_map (child b link) (upward (r.first i) (r.last i - r.first i + 1)))
     ∙ ap (λ k. filter_map (child b link) (upward k (last - first + 1))) from
-    ∙ links_from b link start first last h is r.first r.last (last - first + 1) 0 (omega arith) r.order
+    ∙ links_from b link start first last h is r.first r.last (last - first + 1) 0 (omega arith)
+    r.order
     ∙ ap (λ p. links_at b p (last - first + 1)) here
 
 -- ---- sound nodes
 
-pub unsound_place : (b : List ℕ) (a : Arrival) → (place_of a.link < FIRST_PLACE) ⊎ (length b < place_of a.link) → is_sound b a ≡ false
+pub unsound_place : (b : List ℕ) (a : Arrival)
+    → (place_of a.link < FIRST_PLACE) ⊎ (length b < place_of a.link) → is_sound b a ≡ false
 unfolding is_sound
-unsound_place b a (inl low) = and_left _ _ (and_left _ _ (and_left _ _ (lt-leb FIRST_PLACE (place_of a.link) low)))
-unsound_place b a (inr high) = and_left _ _ (and_left _ _ (and_right _ _ (lt-leb (place_of a.link) (length b) high)))
+unsound_place b a (inl low) =
+    and_left _ _ (and_left _ _ (and_left _ _ (lt-leb FIRST_PLACE (place_of a.link) low)))
+unsound_place b a (inr high) =
+    and_left _ _ (and_left _ _ (and_right _ _ (lt-leb (place_of a.link) (length b) high)))
 
-pub unsound_field : (b : List ℕ) (a : Arrival) → a.is_root ≡ false → (has_prefix a.link || (has_values a.link || has_children a.link)) ≡ false → is_sound b a ≡ false
+pub unsound_field : (b : List ℕ) (a : Arrival) → a.is_root ≡ false
+    → (has_prefix a.link || (has_values a.link || has_children a.link)) ≡ false
+    → is_sound b a ≡ false
 unfolding is_sound
 unsound_field b a root h = and_right _ _ (or_from _ _ root h)
 
-pub unsound_parts : (b : List ℕ) (a : Arrival) → (prefix_fits b a.link && children_fit b a.link) ≡ false → is_sound b a ≡ false
+pub unsound_parts : (b : List ℕ) (a : Arrival)
+    → (prefix_fits b a.link && children_fit b a.link) ≡ false → is_sound b a ≡ false
 unfolding is_sound
 unsound_parts b a h =
     and_left _ _ (and_right _ _
-    (⊎_elim (λ p. and_left (prefix_fits b a.link) (children_fit b a.link && values_fit b a.link) p) (λ c. and_right (prefix_fits b a.link) (children_fit b a.link && values_fit b a.link) (and_left _ _ c)) (and_cases _ _ h)))
+    (⊎_elim (λ p. and_left (prefix_fits b a.link) (children_fit b a.link && values_fit b a.link) p)
+    (λ c. and_right (prefix_fits b a.link) (children_fit b a.link && values_fit b a.link)
+    (and_left _ _ c)) (and_cases _ _ h)))
 
 pub unsound_values : (b : List ℕ) (a : Arrival) → values_fit b a.link ≡ false → is_sound b a ≡ false
 unfolding is_sound
-unsound_values b a h = and_left _ _ (and_right _ _ (and_right (prefix_fits b a.link) _ (and_right (children_fit b a.link) _ h)))
+unsound_values b a h =
+    and_left _ _
+    (and_right _ _ (and_right (prefix_fits b a.link) _ (and_right (children_fit b a.link) _ h)))
 
-pub sound_from : (b : List ℕ) (a : Arrival) → FIRST_PLACE ≤ place_of a.link → place_of a.link ≤ length b → (prefix_fits b a.link && children_fit b a.link) ≡ true → values_fit b a.link ≡ true → (a.is_root || (has_prefix a.link || (has_values a.link || has_children a.link))) ≡ true → is_sound b a ≡ true
+pub sound_from : (b : List ℕ) (a : Arrival) → FIRST_PLACE ≤ place_of a.link
+    → place_of a.link ≤ length b → (prefix_fits b a.link && children_fit b a.link) ≡ true
+    → values_fit b a.link ≡ true
+    → (a.is_root || (has_prefix a.link || (has_values a.link || has_children a.link))) ≡ true
+    → is_sound b a ≡ true
 unfolding is_sound
 sound_from b a low high parts values field =
     let both = and_parts _ _ parts in
     and_from _ _
-    (and_from _ _ (and_from _ _ (le-leb FIRST_PLACE (place_of a.link) low) (le-leb (place_of a.link) (length b) high)) (and_from (prefix_fits b a.link) _ both.0 (and_from (children_fit b a.link) _ both.1 values)))
+    (and_from _ _ (and_from _ _ (le-leb FIRST_PLACE (place_of a.link) low)
+    (le-leb (place_of a.link) (length b) high))
+    (and_from (prefix_fits b a.link) _ both.0
+    (and_from (children_fit b a.link) _ both.1 values)))
     field
 
 -- the facts of a sound node

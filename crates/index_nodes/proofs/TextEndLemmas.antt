@@ -1,9 +1,12 @@
 -- Where texts end.
-use Rattle.std.proofs.Common.{◌≡◌, refl, sym, ap, ◌∙◌, ⊎_elim, ℕ, ◌+◌, ◌-◌, ◌*◌, ◌<◌, ◌≤◌, Bool, true, false, not, cond, List, [], ◌∷◌, length, map, take, drop, get_or, None, Some, arith}
+use Rattle.std.proofs.Common.{◌≡◌, refl, sym, ap, ◌∙◌, ⊎_elim, ℕ, ◌+◌, ◌-◌, ◌*◌, ◌<◌, ◌≤◌, Bool}
+use Rattle.std.proofs.Common.{true, false, not, cond, List, [], ◌∷◌, length, map, take, drop}
+use Rattle.std.proofs.Common.{get_or, None, Some, arith}
 use Rattle.std.proofs.lemmas.Bool.{eq-eqb, ne_eqb, eqb-true, cases_lt, true≢false}
 use Rattle.std.proofs.lemmas.List.{get_or-drop, get_or-take, length-drop, length-take}
 use Rattle.std.proofs.lemmas.List.Sums.{position_or_len_is, prefix_len-le-length}
-use Rattle.std.proofs.lemmas.Simd.{length-chunk, trailing_mask_l, run_in_chunk_le, run_in_chunk_fails, run_in_chunk_stops}
+use Rattle.std.proofs.lemmas.Simd.{length-chunk, trailing_mask_l, run_in_chunk_le}
+use Rattle.std.proofs.lemmas.Simd.{run_in_chunk_fails, run_in_chunk_stops}
 use Rattle.std.specs.List.{prefix_len}
 use lib.Lanes.{chunk, mask_l}
 use lib.Count.{count_trailing_zeros}
@@ -13,16 +16,22 @@ use Rattle.index_nodes.specs.TextEnds.{IsTextEnd}
 use Rattle.index_nodes.proofs.FieldLemmas.{length-text}
 
 -- its length
-pub length-text_end : (b : List ℕ) (start end : ℕ) → IsTextEnd b start end → length (text (drop start b)) ≡ end - start
+pub length-text_end : (b : List ℕ) (start end : ℕ) → IsTextEnd b start end
+    → length (text (drop start b)) ≡ end - start
 length-text_end b start end e =
     let there : start + (end - start) ≡ end = omega (arith, e.low) in
     length-text (drop start b)
     ∙ position_or_len_is is_nul (drop start b) (end - start) 0
     (omega (arith, e.low, e.high, length-drop start b))
-    (λ k lt. ne_eqb (get_or (drop start b) k 0) 0 (λ z. e.clear (start + k) (omega arith) (omega (arith, lt)) (sym (get_or-drop start b k 0) ∙ z)))
-    (λ lt. eq-eqb (get_or (drop start b) (end - start) 0) 0 (get_or-drop start b (end - start) 0 ∙ ap (λ k. get_or b k 0) there ∙ e.nul (omega (arith, lt, length-drop start b))))
+    (λ k lt. ne_eqb (get_or (drop start b) k 0) 0
+    (λ z. e.clear (start + k) (omega arith) (omega (arith, lt))
+    (sym (get_or-drop start b k 0) ∙ z)))
+    (λ lt. eq-eqb (get_or (drop start b) (end - start) 0) 0
+    (get_or-drop start b (end - start) 0 ∙ ap (λ k. get_or b k 0) there
+    ∙ e.nul (omega (arith, lt, length-drop start b))))
 
-module _ (b : List ℕ) (start later later_end : ℕ) (order : start ≤ later) (within : later ≤ length b) (e : IsTextEnd b later later_end) where
+module _ (b : List ℕ) (start later later_end : ℕ) (order : start ≤ later)
+    (within : later ≤ length b) (e : IsTextEnd b later later_end) where
   piece : List ℕ
   piece = take (later - start) (drop start b)
 
@@ -32,10 +41,14 @@ module _ (b : List ℕ) (start later later_end : ℕ) (order : start ≤ later) 
 
   size : length piece ≡ later - start
   unfolding piece
-  size = omega (arith, length-take (later - start) (drop start b), length-drop start b, order, within)
+  size
+      = omega
+      (arith, length-take (later - start) (drop start b), length-drop start b, order, within)
 
   -- the first NUL of what stands between
-  pub end_found : (place : ℕ) → IsFirstByte (is_byte 0) (take (later - start) (drop start b)) (Some place) → IsTextEnd b start (start + place)
+  pub end_found : (place : ℕ)
+      → IsFirstByte (is_byte 0) (take (later - start) (drop start b)) (Some place)
+      → IsTextEnd b start (start + place)
   unfolding piece
   end_found place f = record {
     low = omega arith;
@@ -43,12 +56,17 @@ module _ (b : List ℕ) (start later later_end : ℕ) (order : start ≤ later) 
     clear = λ k from to z.
         let here : start + (k - start) ≡ k = omega (arith, from) in
         f.0.before (k - start) (omega arith) (omega (arith, from, to))
-        (eq-eqb (get_or piece (k - start) 0) 0 (piece_at (k - start) (omega (arith, from, to, f.0.high, size)) ∙ ap (λ j. get_or b j 0) here ∙ z));
-    nul = λ _. sym (piece_at place (omega (arith, f.0.high, size))) ∙ eqb-true (get_or piece place 0) 0 f.1;
+        (eq-eqb (get_or piece (k - start) 0) 0
+        (piece_at (k - start) (omega (arith, from, to, f.0.high, size))
+        ∙ ap (λ j. get_or b j 0) here ∙ z));
+    nul
+        = λ _. sym (piece_at place (omega (arith, f.0.high, size)))
+        ∙ eqb-true (get_or piece place 0) 0 f.1;
   }
 
   -- there is none
-  pub end_later : IsFirstByte (is_byte 0) (take (later - start) (drop start b)) None → IsTextEnd b start later_end
+  pub end_later : IsFirstByte (is_byte 0) (take (later - start) (drop start b)) None
+      → IsTextEnd b start later_end
   unfolding piece
   end_later f = record {
     low = omega (arith, order, e.low);
@@ -57,7 +75,9 @@ module _ (b : List ℕ) (start later later_end : ℕ) (order : start ≤ later) 
         let here : start + (k - start) ≡ k = omega (arith, from) in
         ⊎_elim
         (λ before. f (k - start) (omega arith) (omega (arith, from, before, size))
-        (eq-eqb (get_or piece (k - start) 0) 0 (piece_at (k - start) (omega (arith, from, before)) ∙ ap (λ j. get_or b j 0) here ∙ z)))
+        (eq-eqb (get_or piece (k - start) 0) 0
+        (piece_at (k - start) (omega (arith, from, before)) ∙ ap (λ j. get_or b j 0) here
+        ∙ z)))
         (λ after. e.clear k after to z)
         (cases_lt k later);
     nul = e.nul;
@@ -74,26 +94,41 @@ end_of_file b = record {
 
 -- ---- the first NUL among the first bytes, by the mask of those that are NUL
 
-none_counts : (b : Bool) (n l m : ℕ) → n ≤ l → cond (not b) (1 + n) 0 ≡ 1 + l → (n ≡ l → m ≡ 0) → cond b 1 0 + 2 * m ≡ 0
+none_counts : (b : Bool) (n l m : ℕ) → n ≤ l → cond (not b) (1 + n) 0 ≡ 1 + l → (n ≡ l → m ≡ 0)
+    → cond b 1 0 + 2 * m ≡ 0
 none_counts true n l m le e ih = let no : ⊥ = omega arith in absurd no
 none_counts false n l m le e ih = let z = ih (omega arith) in omega arith
 
-none_set : (xs : List ℕ) → prefix_len (λ x. not (is_nul x)) xs ≡ length xs → mask_l (map is_nul xs) ≡ 0
+none_set : (xs : List ℕ) → prefix_len (λ x. not (is_nul x)) xs ≡ length xs
+    → mask_l (map is_nul xs) ≡ 0
 none_set [] e = refl
-none_set (x ∷ xs) e = none_counts (is_nul x) _ (length xs) _ (prefix_len-le-length (λ y. not (is_nul y)) xs) (omega arith) (none_set xs)
+none_set (x ∷ xs) e =
+    none_counts (is_nul x) _ (length xs) _ (prefix_len-le-length (λ y. not (is_nul y)) xs)
+    (omega arith) (none_set xs)
 
-pub near_found : (xs : List ℕ) (found place : ℕ) → 32 ≤ length xs → found ≡ mask_l (map is_nul (chunk 0 32 xs)) → (found ≡ 0 → ⊥) → place ≡ count_trailing_zeros 64 found → IsFirstByte (is_byte 0) xs (Some place)
+pub near_found : (xs : List ℕ) (found place : ℕ) → 32 ≤ length xs
+    → found ≡ mask_l (map is_nul (chunk 0 32 xs)) → (found ≡ 0 → ⊥)
+    → place ≡ count_trailing_zeros 64 found → IsFirstByte (is_byte 0) xs (Some place)
 near_found xs found place room is some counted =
     let c = chunk 0 32 xs in
     let long = length-chunk 0 32 xs room in
-    let run : place ≡ prefix_len (λ x. not (is_nul x)) c = counted ∙ ap (count_trailing_zeros 64) is ∙ trailing_mask_l is_nul 64 c (omega (arith, long)) (omega (arith, some, is)) in
+    let run : place ≡ prefix_len (λ x. not (is_nul x)) c
+    = counted ∙ ap (count_trailing_zeros 64) is
+    ∙ trailing_mask_l is_nul 64 c (omega (arith, long)) (omega (arith, some, is)) in
     let high : place ≤ 32 = run_in_chunk_le is_nul xs 0 32 place 0 room run in
     let here : place ≡ 0 + place = omega arith in
-    let short : place < 32 = ⊎_elim (λ lt. lt) (λ ge. absurd (some (is ∙ none_set c (omega (arith, run, long, ge, high))))) (cases_lt place 32) in (
+    let short : place < 32
+    = ⊎_elim (λ lt. lt)
+    (λ ge. absurd (some (is ∙ none_set c (omega (arith, run, long, ge, high)))))
+    (cases_lt place 32) in (
       record {
         low = omega arith;
         high = omega (arith, short, room);
-        before = λ k low lt h. true≢false (sym h ∙ run_in_chunk_fails is_nul xs 0 32 place 0 room run k low (omega (arith, lt)));
+        before
+            = λ k low lt h. true≢false
+            (sym h
+            ∙ run_in_chunk_fails is_nul xs 0 32 place 0 room run k low (omega (arith, lt)));
       },
-      ap (λ k. is_nul (get_or xs k 0)) here ∙ run_in_chunk_stops is_nul xs 0 32 place 0 room run short,
+      ap (λ k. is_nul (get_or xs k 0)) here
+          ∙ run_in_chunk_stops is_nul xs 0 32 place 0 room run short,
     )

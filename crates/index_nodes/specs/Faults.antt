@@ -1,9 +1,11 @@
 -- The faults of an index, and their texts in a line on standard error.
 use Rattle.std.specs.Prelude.{◌≡◌, ℕ, List, ◌++◌, codes, Option, Some}
 use Rattle.std.specs.Fmt.{decimal}
-use Rattle.index_format.specs.Check.{Fault, BadMagic as NoMagic, BadVersion as NoVersion, BadNode as NodeFault, Revisited as SecondVisit}
+use Rattle.index_format.specs.Check.{Fault, BadMagic as NoMagic, BadVersion as NoVersion}
+use Rattle.index_format.specs.Check.{BadNode as NodeFault, Revisited as SecondVisit}
 use Rattle.index_nodes.specs.declared.fault.IndexFault.{IndexFault}
-use Rattle.index_nodes.specs.declared.fault.IndexFault.TheVariants.{BadMagic, BadVersion, BadNode, Revisited, Memory}
+use Rattle.index_nodes.specs.declared.fault.IndexFault.TheVariants.{BadMagic, BadVersion, BadNode}
+use Rattle.index_nodes.specs.declared.fault.IndexFault.TheVariants.{Revisited, Memory}
 
 -- The fault is the first one of the file; memory may run out at any file.
 abbrev pub IsFirstFault : Option Fault → IndexFault → Type 0

@@ -1,12 +1,14 @@
 -- What is still to be visited.
 -- It belongs to the code: no public meaning rests on it.
-use Rattle.std.specs.Prelude.{◌≡◌, ℕ, zero, suc, ◌+◌, ◌*◌, ◌<◌, ◌≤◌, true, false, List, [], ◌∷◌, ◌++◌, length, nat_eq, Option}
+use Rattle.std.specs.Prelude.{◌≡◌, ℕ, zero, suc, ◌+◌, ◌*◌, ◌<◌, ◌≤◌, true, false, List, [], ◌∷◌}
+use Rattle.std.specs.Prelude.{◌++◌, length, nat_eq, Option}
 use Rattle.std.specs.List.{cons_option, flat_map, list_any}
 use Rattle.km_names.specs.Number.{be}
 use Rattle.index_format.specs.Link.{place_of}
 use Rattle.index_format.specs.Node.{present, children}
 use Rattle.km_names.specs.First.{first}
-use Rattle.index_format.specs.Check.{Fault, Arrival, is_sound, arrivals, arrival_faults, root_arrival}
+use Rattle.index_format.specs.Check.{Fault, Arrival, is_sound, arrivals, arrival_faults}
+use Rattle.index_format.specs.Check.{root_arrival}
 use Rattle.index_nodes.specs.declared.check.Pending.{Pending}
 use Rattle.index_nodes.specs.declared.check.Visit.{Visit}
 use Rattle.index_nodes.specs.declared.place_set.PlaceSet.{PlaceSet}

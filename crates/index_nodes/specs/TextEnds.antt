@@ -1,5 +1,6 @@
 -- The ends of texts, by the blocks of a file: a part of the invariant of `Nodes`.
-use Rattle.std.specs.Prelude.{◌≡◌, ◌≢◌, ℕ, ◌+◌, ◌*◌, ◌/◌, ◌<◌, ◌≤◌, List, length, vec_len, min, slice_index}
+use Rattle.std.specs.Prelude.{◌≡◌, ◌≢◌, ℕ, ◌+◌, ◌*◌, ◌/◌, ◌<◌, ◌≤◌, List, length, vec_len, min}
+use Rattle.std.specs.Prelude.{slice_index}
 use Rattle.index_nodes.specs.declared.text_ends.TextEnds.{TextEnds}
 use Rattle.index_nodes.specs.declared.text_ends.TheConstants.{BLOCK}
 
@@ -19,4 +20,5 @@ block_start b block = min (block * BLOCK) (length b)
 -- end of the file.
 pub record AreTextEnds (b : List ℕ) (t : TextEnds) : Type 0 where
   pub count : vec_len t.ends ≡ length b / BLOCK + 2
-  pub each : (block : ℕ) → block < vec_len t.ends → IsTextEnd b (block_start b block) (slice_index t.ends.items block)
+  pub each : (block : ℕ) → block < vec_len t.ends
+      → IsTextEnd b (block_start b block) (slice_index t.ends.items block)

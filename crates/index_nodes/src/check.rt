@@ -1,5 +1,7 @@
 // The check of a file, in the reader's order of visits.
-ghost use Rattle.std.specs.Prelude.{◌≡◌, ◌≤◌, ◌<◌, ◌+◌, ◌/◌, ◌%◌, ◌==◌, ◌||◌, ◌⊎◌, ℕ, List, [], ◌∷◌, ◌++◌, length, vec_len, Some, None, OnOk, IfErr, IfOk, MatchOption, MatchResult, true, false};
+ghost use Rattle.std.specs.Prelude.{◌≡◌, ◌≤◌, ◌<◌, ◌+◌, ◌/◌, ◌%◌, ◌==◌, ◌||◌, ◌⊎◌, ℕ, List, []};
+ghost use Rattle.std.specs.Prelude.{◌∷◌, ◌++◌, length, vec_len, Some, None, OnOk, IfErr, IfOk};
+ghost use Rattle.std.specs.Prelude.{MatchOption, MatchResult, true, false};
 ghost use Rattle.std.specs.List.{AllByRecursion};
 ghost use Rattle.km_names.specs.Number.{be};
 ghost use Rattle.index_format.specs.Link.{place_of, has_prefix, has_values, has_children};
@@ -8,7 +10,8 @@ ghost use Rattle.index_nodes.specs.Faults.{IsFirstFault};
 ghost use Rattle.index_nodes.specs.Fields.{HasFields};
 ghost use Rattle.index_nodes.specs.TextEnds.{AreTextEnds};
 ghost use Rattle.index_nodes.specs.ValueStarts.{AreValueStarts};
-ghost use Rattle.index_nodes.specs.Pending.{links_of, arrivals_left, child_arrivals, nodes_fault, IsInside, HasPlaces, arrival_of, IsPendingOf};
+ghost use Rattle.index_nodes.specs.Pending.{links_of, arrivals_left, child_arrivals, nodes_fault};
+ghost use Rattle.index_nodes.specs.Pending.{IsInside, HasPlaces, arrival_of, IsPendingOf};
 
 use crate::fault::IndexFault;
 use crate::fields::{has_whole_values, node_at, place};
@@ -92,8 +95,10 @@ pub(crate) fn sound_node(
 ) -> Result<Option<Node>, AllocError>
     requires ends { AreTextEnds bytes.now ends.now }
     requires starts { AreValueStarts bytes.now starts.old }
-    ensures sound { IfOk result (λ o. MatchOption o (is_sound bytes.now (arrival_of visit.now) ≡ false)
-        (λ n. (is_sound bytes.now (arrival_of visit.now) ≡ true) × (n.link ≡ visit.now.link) × HasFields bytes.now n)) }
+    ensures sound { IfOk result (λ o. MatchOption o
+        (is_sound bytes.now (arrival_of visit.now) ≡ false)
+        (λ n. (is_sound bytes.now (arrival_of visit.now) ≡ true) × (n.link ≡ visit.now.link)
+        × HasFields bytes.now n)) }
     ensures starts { AreValueStarts bytes.now starts.new }
 {
     let at = place(visit.link);
@@ -127,7 +132,8 @@ fn visit_node(
     ensures room { vec_len visited.new.words ≡ vec_len visited.old.words }
     ensures starts { AreValueStarts bytes.now starts.new }
     ensures fault { (seen : List ℕ) → HasPlaces visited.old seen
-        → IfErr result (λ fault. IsFirstFault (arrival_fault bytes.now seen (arrival_of visit.now)) fault) }
+        → IfErr result
+        (λ fault. IsFirstFault (arrival_fault bytes.now seen (arrival_of visit.now)) fault) }
     ensures passes { (seen : List ℕ) → HasPlaces visited.old seen
         → OnOk result (arrival_fault bytes.now seen (arrival_of visit.now) ≡ None) }
     ensures places { (seen : List ℕ) → HasPlaces visited.old seen
@@ -178,7 +184,9 @@ fn push_pending(stack: &mut Vec<Pending>, pending: Pending) -> Result<(), AllocE
     ensures inside { (b : List ℕ) → IsInside b pending → AllByRecursion (IsInside b) stack.old.items
         → OnOk result (AllByRecursion (IsInside b) stack.new.items) }
     ensures count { OnOk result (vec_len stack.new ≤ vec_len stack.old + 1) }
-    ensures top { OnOk result ((stack.new.items ≡ stack.old.items) ⊎ (stack.new.items ≡ stack.old.items ++ pending ∷ [])) }
+    ensures top { OnOk result
+        ((stack.new.items ≡ stack.old.items)
+        ⊎ (stack.new.items ≡ stack.old.items ++ pending ∷ [])) }
 {
     if pending.left > 0 {
         stack.push(pending)?;

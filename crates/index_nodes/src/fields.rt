@@ -1,5 +1,6 @@
 // Where the fields of a node are, and whether they are whole.
-ghost use Rattle.std.specs.Prelude.{◌≡◌, ◌≤◌, ◌<◌, ◌^◌, ◌&&◌, length, drop, MatchOption, IfOk, true, false};
+ghost use Rattle.std.specs.Prelude.{◌≡◌, ◌≤◌, ◌<◌, ◌^◌, ◌&&◌, length, drop, MatchOption, IfOk};
+ghost use Rattle.std.specs.Prelude.{true, false};
 ghost use Rattle.index_format.specs.Link.{place_of};
 ghost use Rattle.index_format.specs.Node.{after_prefix};
 ghost use Rattle.index_format.specs.Check.{prefix_fits, children_fit, values_fit};
@@ -80,7 +81,8 @@ fn children_end(bytes: &[u8], link: u32, start: usize) -> Option<usize>
 pub(crate) fn node_at(bytes: &[u8], ends: &TextEnds, link: u32) -> Option<Node>
     requires ends { AreTextEnds bytes.now ends.now }
     requires within { place_of link ≤ length bytes.now }
-    ensures { MatchOption result ((prefix_fits bytes.now link && children_fit bytes.now link) ≡ false)
+    ensures { MatchOption result
+        ((prefix_fits bytes.now link && children_fit bytes.now link) ≡ false)
         (λ n. ((prefix_fits bytes.now link && children_fit bytes.now link) ≡ true)
         × (n.link ≡ link) × HasFields bytes.now n) }
 {

@@ -26,7 +26,8 @@ fn put_links(bytes: &[u8], children: &Pending, links: &mut [u32], count: usize) 
     requires room { count + children.now.left ≤ length links.old }
     ensures room { length links.new ≡ length links.old }
     ensures within { result ≤ length links.new }
-    ensures links { take result links.new ≡ take count links.old ++ links_of bytes.now children.now }
+    ensures links { take result links.new
+        ≡ take count links.old ++ links_of bytes.now children.now }
 {
     let mut filled = count;
     for n in 0..children.left {
@@ -53,7 +54,9 @@ fn visit_lower(
     requires count { count ≤ length links.old }
     ensures starts { AreValueStarts bytes.now starts.new }
     ensures within { IfOk result (λ o. IfSome o (λ n. n ≤ length links.new)) }
-    ensures visited { IfOk result (λ o. IfSome o (λ n. IsVisited bytes.now visit.now (take count links.old) (take n links.new))) }
+    ensures visited { IfOk result
+        (λ o. IfSome o
+        (λ n. IsVisited bytes.now visit.now (take count links.old) (take n links.new))) }
 {
     if place(visit.link) as usize >= visit.above {
         return Ok(None);

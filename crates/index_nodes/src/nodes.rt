@@ -1,4 +1,5 @@
-ghost use Rattle.std.specs.Prelude.{◌≡◌, ◌+◌, ◌-◌, ◌≤◌, ◌<◌, ◌∷◌, [], ℕ, length, take, drop, Some, None, IfOk, OnOk, IfErr, IfNone, IfSome, slice_get};
+ghost use Rattle.std.specs.Prelude.{◌≡◌, ◌+◌, ◌-◌, ◌≤◌, ◌<◌, ◌∷◌, [], ℕ, length, take, drop, Some};
+ghost use Rattle.std.specs.Prelude.{None, IfOk, OnOk, IfErr, IfNone, IfSome, slice_get};
 ghost use Rattle.index_format.specs.Node.{root, prefix, child, values};
 ghost use Rattle.index_format.specs.Check.{index_fault};
 ghost use Rattle.index_format.specs.Nodes.{IsNode};
@@ -91,7 +92,8 @@ impl Nodes {
         requires { IsNodeOf self.now node.now }
         ensures order { result.0 ≤ result.1 }
         ensures within { result.1 ≤ length self.now }
-        ensures prefix { take (result.1 - result.0) (drop result.0 self.now) ≡ prefix self.now (link_of node.now) }
+        ensures prefix { take (result.1 - result.0) (drop result.0 self.now)
+            ≡ prefix self.now (link_of node.now) }
     {
         prefix_range(self.bytes.as_bytes(), node)
     }
@@ -119,10 +121,14 @@ impl Nodes {
     /// `None` exactly if there is no such child.
     pub fn next_child(&self, node: &Node, from: u8) -> Option<(u8, NodeRef)>
         requires { IsNodeOf self.now node.now }
-        ensures none { IfNone result ((byte : ℕ) → from ≤ byte → child self.now (link_of node.now) byte ≡ None) }
-        ensures some { IfSome result (λ next. child self.now (link_of node.now) next.0 ≡ Some next.1) }
+        ensures none { IfNone result
+            ((byte : ℕ) → from ≤ byte → child self.now (link_of node.now) byte ≡ None) }
+        ensures some { IfSome result
+            (λ next. child self.now (link_of node.now) next.0 ≡ Some next.1) }
         ensures from { IfSome result (λ next. from ≤ next.0) }
-        ensures first { IfSome result (λ next. (byte : ℕ) → from ≤ byte → byte < next.0 → child self.now (link_of node.now) byte ≡ None) }
+        ensures first { IfSome result
+            (λ next. (byte : ℕ) → from ≤ byte → byte < next.0
+            → child self.now (link_of node.now) byte ≡ None) }
         ensures top { IfSome result (λ next. next.0 ≤ 127) }
         ensures node { IfSome result (λ next. IsNode self.now next.1) }
     {
@@ -134,8 +140,10 @@ impl Nodes {
     pub fn first_value(&self, node: &Node) -> Option<Place>
         requires { IsNodeOf self.now node.now }
         ensures none { IfNone result (values self.now (link_of node.now) ≡ []) }
-        ensures some { IfSome result (λ at. values_left self.now at ≡ values self.now (link_of node.now)) }
-        ensures first { IfSome result (λ at. slice_get (values self.now (link_of node.now)) 0 ≡ Some (value_at self.now at)) }
+        ensures some { IfSome result
+            (λ at. values_left self.now at ≡ values self.now (link_of node.now)) }
+        ensures first { IfSome result
+            (λ at. slice_get (values self.now (link_of node.now)) 0 ≡ Some (value_at self.now at)) }
         ensures place { IfSome result (IsPlaceOf self.now) }
     {
         first_place(self.bytes.as_bytes(), node)
@@ -146,7 +154,9 @@ impl Nodes {
     pub fn next_value(&self, at: &Place) -> Option<Place>
         requires { IsPlaceOf self.now at.now }
         ensures none { IfNone result (values_left self.now at.now ≡ value_at self.now at.now ∷ []) }
-        ensures some { IfSome result (λ next. values_left self.now at.now ≡ value_at self.now at.now ∷ values_left self.now next) }
+        ensures some { IfSome result
+            (λ next. values_left self.now at.now
+            ≡ value_at self.now at.now ∷ values_left self.now next) }
         ensures place { IfSome result (IsPlaceOf self.now) }
     {
         next_place(self.bytes.as_bytes(), at)

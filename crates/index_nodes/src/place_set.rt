@@ -38,7 +38,8 @@ impl PlaceSet {
     /// Adds a place for which there is room.
     pub(crate) fn add(&mut self, place: usize)
         requires { place / 64 < vec_len self.old.words }
-        ensures added { (other : ℕ) → has_place self.new other ≡ (other == place || has_place self.old other) }
+        ensures added { (other : ℕ)
+            → has_place self.new other ≡ (other == place || has_place self.old other) }
         ensures room { vec_len self.new.words ≡ vec_len self.old.words }
     {
         let index = place / WORD_BITS;

@@ -1,5 +1,6 @@
 // What the fields of a sound node have.
-ghost use Rattle.std.specs.Prelude.{◌≡◌, ◌+◌, ◌-◌, ◌≤◌, ◌<◌, ◌∷◌, [], ℕ, length, take, drop, true, Some, None, IfNone, IfSome, MatchOption, slice_get};
+ghost use Rattle.std.specs.Prelude.{◌≡◌, ◌+◌, ◌-◌, ◌≤◌, ◌<◌, ◌∷◌, [], ℕ, length, take, drop, true};
+ghost use Rattle.std.specs.Prelude.{Some, None, IfNone, IfSome, MatchOption, slice_get};
 ghost use Rattle.index_format.specs.Link.{has_children};
 ghost use Rattle.index_format.specs.Node.{prefix, child, values, first_byte, last_byte};
 ghost use Rattle.index_format.specs.Check.{children_fit, whole_values, values_fit};
@@ -21,7 +22,8 @@ pub(crate) fn prefix_range(bytes: &[u8], node: &Node) -> (usize, usize)
     requires { HasFields bytes.now node.now }
     ensures order { result.0 ≤ result.1 }
     ensures within { result.1 ≤ length bytes.now }
-    ensures prefix { take (result.1 - result.0) (drop result.0 bytes.now) ≡ prefix bytes.now node.now.link }
+    ensures prefix { take (result.1 - result.0) (drop result.0 bytes.now)
+        ≡ prefix bytes.now node.now.link }
 {
     if node.link & HAS_PREFIX == 0 {
         return (0, 0);
@@ -90,10 +92,13 @@ pub(crate) fn child_link(bytes: &[u8], node: &Node, byte: u8) -> Option<u32>
 pub(crate) fn next_link(bytes: &[u8], node: &Node, from: u8) -> Option<(u8, u32)>
     requires fields { HasFields bytes.now node.now }
     requires fit { children_fit bytes.now node.now.link ≡ true }
-    ensures none { IfNone result ((byte : ℕ) → from ≤ byte → child bytes.now node.now.link byte ≡ None) }
+    ensures none { IfNone result
+        ((byte : ℕ) → from ≤ byte → child bytes.now node.now.link byte ≡ None) }
     ensures some { IfSome result (λ next. child bytes.now node.now.link next.0 ≡ Some next.1) }
     ensures from { IfSome result (λ next. from ≤ next.0) }
-    ensures first { IfSome result (λ next. (byte : ℕ) → from ≤ byte → byte < next.0 → child bytes.now node.now.link byte ≡ None) }
+    ensures first { IfSome result
+        (λ next. (byte : ℕ) → from ≤ byte → byte < next.0
+        → child bytes.now node.now.link byte ≡ None) }
     ensures top { IfSome result (λ next. next.0 ≤ 127) }
 {
     let (first, last) = range_of(bytes, node)?;
@@ -110,8 +115,10 @@ fn place_at(bytes: &[u8], start: usize, left: u32) -> Option<Place>
     requires within { start ≤ length bytes.now }
     requires whole { whole_values left (drop start bytes.now) ≡ true }
     ensures none { IfNone result (values_from bytes.now start left ≡ []) }
-    ensures some { IfSome result (λ at. values_left bytes.now at ≡ values_from bytes.now start left) }
-    ensures first { IfSome result (λ at. slice_get (values_from bytes.now start left) 0 ≡ Some (value_at bytes.now at)) }
+    ensures some { IfSome result
+        (λ at. values_left bytes.now at ≡ values_from bytes.now start left) }
+    ensures first { IfSome result
+        (λ at. slice_get (values_from bytes.now start left) 0 ≡ Some (value_at bytes.now at)) }
     ensures place { IfSome result (IsPlaceOf bytes.now) }
 {
     if left == 0 {
@@ -130,7 +137,8 @@ pub(crate) fn first_place(bytes: &[u8], node: &Node) -> Option<Place>
     requires fit { values_fit bytes.now node.now.link ≡ true }
     ensures none { IfNone result (values bytes.now node.now.link ≡ []) }
     ensures some { IfSome result (λ at. values_left bytes.now at ≡ values bytes.now node.now.link) }
-    ensures first { IfSome result (λ at. slice_get (values bytes.now node.now.link) 0 ≡ Some (value_at bytes.now at)) }
+    ensures first { IfSome result
+        (λ at. slice_get (values bytes.now node.now.link) 0 ≡ Some (value_at bytes.now at)) }
     ensures place { IfSome result (IsPlaceOf bytes.now) }
 {
     if node.link & HAS_VALUES == 0 {
@@ -154,7 +162,9 @@ pub(crate) fn text_at<'b>(bytes: &'b [u8], at: &Place) -> &'b [u8]
 pub(crate) fn next_place(bytes: &[u8], at: &Place) -> Option<Place>
     requires { IsPlaceOf bytes.now at.now }
     ensures none { IfNone result (values_left bytes.now at.now ≡ value_at bytes.now at.now ∷ []) }
-    ensures some { IfSome result (λ next. values_left bytes.now at.now ≡ value_at bytes.now at.now ∷ values_left bytes.now next) }
+    ensures some { IfSome result
+        (λ next. values_left bytes.now at.now
+        ≡ value_at bytes.now at.now ∷ values_left bytes.now next) }
     ensures place { IfSome result (IsPlaceOf bytes.now) }
 {
     let text = text_at(bytes, at);

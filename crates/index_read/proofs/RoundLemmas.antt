@@ -21,11 +21,13 @@ abbrev pub IsGoing : List ℕ → KeyWalk → Option Node → Type 0
 IsGoing b w None = Unit {0}
 IsGoing b w (Some n) = IsNodeOf b n × IsWalking b w
 
-pub still_to_do : (b : List ℕ) (old new : KeyWalk) (o : Option Node) → GoesOn b old new o → left b old ≡ to_do b new o
+pub still_to_do : (b : List ℕ) (old new : KeyWalk) (o : Option Node) → GoesOn b old new o
+    → left b old ≡ to_do b new o
 still_to_do b old new None h = h
 still_to_do b old new (Some n) h = h.still
 
-pub still_going : (b : List ℕ) (old new : KeyWalk) (o : Option Node) → GoesOn b old new o → IsGoing b new o
+pub still_going : (b : List ℕ) (old new : KeyWalk) (o : Option Node) → GoesOn b old new o
+    → IsGoing b new o
 still_going b old new None h = tt
 still_going b old new (Some n) h = (h.node, h.walking)
 

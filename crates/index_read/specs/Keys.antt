@@ -1,6 +1,7 @@
 -- The nodes of an index, each with the key that leads to it, in the order of their keys. After a
 -- node come the ones below it, by rising bytes, each with all that is below it.
-use Rattle.std.specs.Prelude.{ℕ, zero, suc, ◌+◌, ◌-◌, ◌≤◌, List, [], ◌∷◌, ◌++◌, length, flat_map, Option, Some, None}
+use Rattle.std.specs.Prelude.{ℕ, zero, suc, ◌+◌, ◌-◌, ◌≤◌, List, [], ◌∷◌, ◌++◌, length, flat_map}
+use Rattle.std.specs.Prelude.{Option, Some, None}
 use Rattle.std.specs.List.{cons_option, AllByRecursion}
 use Rattle.index_format.specs.Link.{place_of}
 use Rattle.index_format.specs.Node.{root, prefix, child}
@@ -21,7 +22,8 @@ on_child (Some next) under = under next
 unfoldable pub branches : (ℕ → List ℕ → List Item) → List ℕ → ℕ → List ℕ → ℕ → ℕ → List Item
 branches under b link key byte zero = []
 branches under b link key byte (suc n) =
-    on_child (child b link byte) (λ next. under next (key ++ byte ∷ [])) ++ branches under b link key (byte + 1) n
+    on_child (child b link byte) (λ next. under next (key ++ byte ∷ []))
+    ++ branches under b link key (byte + 1) n
 
 -- The number of bytes that may lead to a child.
 abbrev pub key_bytes : ℕ
@@ -51,7 +53,8 @@ key_of b ls = flat_map (piece b) ls
 -- The nodes still to come on a level of this key: the ones below the bytes from its next one on.
 abbrev pub level_items : List ℕ → List ℕ → Level → List Item
 level_items b key l =
-    branches (items b (place_of (link_of l.node))) b (link_of l.node) key l.next (key_bytes - l.next)
+    branches (items b (place_of (link_of l.node))) b (link_of l.node) key l.next
+    (key_bytes - l.next)
 
 -- The nodes still to come on levels that go on from a key, the last level's first.
 abbrev pub items_left : List ℕ → List ℕ → List Level → List Item

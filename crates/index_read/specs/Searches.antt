@@ -1,6 +1,7 @@
 -- A search over the keys of an index for those that match a text: what is still to come, and the
 -- result of a step. It belongs to the code: no public meaning rests on it.
-use Rattle.std.specs.Prelude.{◌≡◌, ◌↔◌, ℕ, ◌+◌, ◌-◌, ◌≤◌, IsTrue, Bool, true, false, List, [], ◌∷◌, ◌++◌, length, Option, Some, None, Result, Ok, Err}
+use Rattle.std.specs.Prelude.{◌≡◌, ◌↔◌, ℕ, ◌+◌, ◌-◌, ◌≤◌, IsTrue, Bool, true, false, List, [], ◌∷◌}
+use Rattle.std.specs.Prelude.{◌++◌, length, Option, Some, None, Result, Ok, Err}
 use Rattle.std.specs.List.{AllByRecursion}
 use Rattle.index_format.specs.Link.{place_of}
 use Rattle.index_format.specs.Node.{child}
@@ -61,12 +62,17 @@ Enters b text key link p (Some f) = Arrives b text key link p f
 
 -- The nodes below a node with this key, from a byte on.
 abbrev pub below : List ℕ → Branch → List ℕ → List Item
-below b l key = branches (items b (place_of (link_of l.node))) b (link_of l.node) key l.next (key_bytes - l.next)
+below b l key =
+    branches (items b (place_of (link_of l.node))) b (link_of l.node) key l.next
+    (key_bytes - l.next)
 
 -- The nodes still to come, the last level's first, if the words of the levels' keys are saved.
 pub data Waits (b text : List ℕ) : List Branch → List ℕ → List Item → Type 0 where
   bottom : Waits b text [] [] []
-  above : {ls : List Branch} {saved : List ℕ} {is : List Item} (l : Branch) (words key : List ℕ) → Waits b text ls saved is → IsNodeOf b l.node → l.next ≤ key_bytes → WasRead text key l.key words → Waits b text (ls ++ l ∷ []) (saved ++ words) (below b l key ++ is)
+  above : {ls : List Branch} {saved : List ℕ} {is : List Item} (l : Branch) (words key : List ℕ)
+      → Waits b text ls saved is → IsNodeOf b l.node → l.next ≤ key_bytes
+      → WasRead text key l.key words
+      → Waits b text (ls ++ l ∷ []) (saved ++ words) (below b l key ++ is)
 
 -- The level of a node, by its key.
 abbrev pub branch_of : Node → Saved → Branch

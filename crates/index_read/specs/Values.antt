@@ -22,10 +22,11 @@ abbrev pub shown_pairs : List Pair → List KeyValue
 shown_pairs ps = map pair_of ps
 
 -- The values of every key that matches the text as a pattern, by key and then by place.
-pub record IsMatching (values : List ℕ → List Value) (text : List ℕ) (found : List Value) : Type 0 where
-  pub pairs : List KeyValue
-  pub matching : IsSelection (λ key. Matches key text) values pairs
-  pub found_is : found ≡ map (λ p. p.1) pairs
+pub record IsMatching (values : List ℕ → List Value) (text : List ℕ) (found : List Value) : Type 0
+  where
+    pub pairs : List KeyValue
+    pub matching : IsSelection (λ key. Matches key text) values pairs
+    pub found_is : found ≡ map (λ p. p.1) pairs
 
 -- The same values by rising priority. Values of one priority are by key and then by place.
 pub record IsWild (values : List ℕ → List Value) (text : List ℕ) (found : List Value) : Type 0 where

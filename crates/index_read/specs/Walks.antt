@@ -1,6 +1,7 @@
 -- A walk over the keys of an index: what is still to come, what is written of the key, and the
 -- result of a step. It belongs to the code: no public meaning rests on it.
-use Rattle.std.specs.Prelude.{◌≡◌, ℕ, ◌+◌, ◌≤◌, List, [], ◌∷◌, length, take, Option, Some, None, Result, Ok, Err}
+use Rattle.std.specs.Prelude.{◌≡◌, ℕ, ◌+◌, ◌≤◌, List, [], ◌∷◌, length, take, Option, Some, None}
+use Rattle.std.specs.Prelude.{Result, Ok, Err}
 use Rattle.index_nodes.specs.Fields.{link_of, IsNodeOf}
 use Rattle.index_nodes.specs.declared.node.Node.{Node}
 use Rattle.index_read.specs.declared.walk.Level.{Level}

@@ -1,5 +1,6 @@
 // The first value of each key of an index.
-ghost use Rattle.std.specs.Prelude.{◌≡◌, ◌<◌, [], ◌∷◌, None, IfOk, IfSome, OnOk, OnErr, MatchOption};
+ghost use Rattle.std.specs.Prelude.{◌≡◌, ◌<◌, [], ◌∷◌, None, IfOk, IfSome, OnOk, OnErr};
+ghost use Rattle.std.specs.Prelude.{MatchOption};
 ghost use Rattle.std.specs.FinMap.{entries};
 ghost use Rattle.index_format.specs.Check.{index_fault};
 ghost use Rattle.index_nodes.specs.Fields.{link_of, IsNodeOf};
@@ -24,9 +25,9 @@ pub struct FirstValue<'a> {
     pub text: &'a [u8],
 }
 
-/// A walk over the keys of an index that have a value, by the bytes of the keys, each with its first
-/// value. Each node is read at most once, no text is copied, and of the keys only the last one is
-/// kept. Contracts see the key of the value that came last, and what is still to come.
+/// A walk over the keys of an index that have a value, by the bytes of the keys, each with its
+/// first value. Each node is read at most once, no text is copied, and of the keys only the last
+/// one is kept. Contracts see the key of the value that came last, and what is still to come.
 #[derive(Drop)]
 pub struct FirstWalk<'a> {
     nodes: &'a Nodes,
@@ -41,7 +42,10 @@ impl<'a> Model for FirstWalk<'a> {
 
     ghost Value = { FirstsLeft };
 
-    ghost view = { λ w. record { key = w.walk.key.items; left = first_items w.nodes.now (still w.nodes.now w.walk w.root) } };
+    ghost view = { λ w. record {
+      key = w.walk.key.items;
+      left = first_items w.nodes.now (still w.nodes.now w.walk w.root);
+    } };
 
     ghost invariant = { λ w. IsOnWay w.nodes.now w.walk w.root };
 }
@@ -58,15 +62,19 @@ impl<'a> FirstWalk<'a> {
         start_over::<Brand>(alloc, &index.nodes, Blank::new(1))
     }
 
-    /// Goes on to the next key that has a value, and returns its first value. Returns `None` exactly
-    /// if there is none left.
+    /// Goes on to the next key that has a value, and returns its first value. Returns `None`
+    /// exactly if there is none left.
     ///
     /// # Errors
     ///
     /// Out of memory. Then nothing is left.
     pub fn next(&mut self) -> Result<Option<FirstValue<'a>>, AllocError>
-        ensures next { IfOk result (λ found. MatchOption found (self.old.left ≡ []) (λ first. self.old.left ≡ (self.new.key, (first.priority, first.text.now)) ∷ self.new.left)) }
-        ensures none { IfOk result (λ found. MatchOption found (self.new.left ≡ []) (λ first. Unit {0})) }
+        ensures next { IfOk result
+            (λ found. MatchOption found (self.old.left ≡ [])
+            (λ first. self.old.left
+            ≡ (self.new.key, (first.priority, first.text.now)) ∷ self.new.left)) }
+        ensures none { IfOk result
+            (λ found. MatchOption found (self.new.left ≡ []) (λ first. Unit {0})) }
         ensures over { OnErr result (self.new.left ≡ []) }
     {
         let nodes = self.nodes;
@@ -123,8 +131,13 @@ fn next_over<'a, L: Ledger>(
     requires parts { blank.parts ≡ L.parts }
     requires some { 0 < blank.parts }
     requires way { IsOnWay nodes.now walk.old root.old }
-    ensures next { IfOk result (λ found. MatchOption found (first_items nodes.now (still nodes.now walk.old root.old) ≡ []) (λ first. first_items nodes.now (still nodes.now walk.old root.old) ≡ (walk.new.key.items, (first.priority, first.text.now)) ∷ first_items nodes.now (still nodes.now walk.new root.new))) }
-    ensures way { IfOk result (λ found. IfSome found (λ first. IsOnWay nodes.now walk.new root.new)) }
+    ensures next { IfOk result
+        (λ found. MatchOption found (first_items nodes.now (still nodes.now walk.old root.old) ≡ [])
+        (λ first. first_items nodes.now (still nodes.now walk.old root.old)
+        ≡ (walk.new.key.items, (first.priority, first.text.now))
+        ∷ first_items nodes.now (still nodes.now walk.new root.new))) }
+    ensures way { IfOk result
+        (λ found. IfSome found (λ first. IsOnWay nodes.now walk.new root.new)) }
 {
     let mut steps = Steps::<L>::new(blank);
     while let Some(node) = go_on(nodes, walk, root, &mut steps)? {
@@ -148,7 +161,8 @@ fn go_on<L: Ledger>(
     steps: &mut Steps<L>,
 ) -> Result<Option<Node>, AllocError>
     requires way { IsOnWay nodes.now walk.old root.old }
-    ensures goes_on { IfOk result (λ found. reached nodes.now walk.new found ≡ still nodes.now walk.old root.old) }
+    ensures goes_on { IfOk result
+        (λ found. reached nodes.now walk.new found ≡ still nodes.now walk.old root.old) }
     ensures way { IfOk result (IsReached nodes.now walk.new) }
     ensures root { OnOk result (root.new ≡ None) }
 {

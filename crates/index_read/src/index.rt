@@ -1,4 +1,5 @@
-ghost use Rattle.std.specs.Prelude.{◌≡◌, ◌+◌, ◌≤◌, ◌++◌, [], length, map, Some, None, IfOk, OnOk, IfErr, IfNone, IfSome, slice_get};
+ghost use Rattle.std.specs.Prelude.{◌≡◌, ◌+◌, ◌≤◌, ◌++◌, [], length, map, Some, None, IfOk, OnOk};
+ghost use Rattle.std.specs.Prelude.{IfErr, IfNone, IfSome, slice_get};
 ghost use Rattle.std.specs.FinMap.{entries};
 ghost use Rattle.index_format.specs.Map.{KeyValues, values_of};
 ghost use Rattle.index_format.specs.Node.{root, values};
@@ -49,7 +50,9 @@ impl Index {
     /// reads the nodes of the key's walk, at most one more than the key has bytes.
     pub fn find_one<L: Ledger>(&self, key: &[u8], steps: &mut Steps<L>) -> Option<Place>
         ensures none { IfNone result (at self.now.nodes (root self.now.nodes) key.now ≡ []) }
-        ensures first { IfSome result (λ place. slice_get (at self.now.nodes (root self.now.nodes) key.now) 0 ≡ Some (value_at self.now.nodes place)) }
+        ensures first { IfSome result
+            (λ place. slice_get (at self.now.nodes (root self.now.nodes) key.now) 0
+            ≡ Some (value_at self.now.nodes place)) }
         ensures place { IfSome result (IsPlaceOf self.now.nodes) }
         ensures held { Holds self.now.nodes (contents self.now.nodes) }
         ensures cost { steps.new ≡ steps.old + visits self.now.nodes key.now }
@@ -75,8 +78,10 @@ impl Index {
         key: &[u8],
         steps: &mut Steps<L>,
     ) -> Result<Values, AllocError>
-        ensures values { IfOk result (λ found. found_values found ≡ at self.now.nodes (root self.now.nodes) key.now) }
-        ensures map { (m : KeyValues) → Holds self.now.nodes m → IfOk result (λ found. found_values found ≡ values_of m key.now) }
+        ensures values { IfOk result
+            (λ found. found_values found ≡ at self.now.nodes (root self.now.nodes) key.now) }
+        ensures map { (m : KeyValues) → Holds self.now.nodes m
+            → IfOk result (λ found. found_values found ≡ values_of m key.now) }
         ensures held { Holds self.now.nodes (contents self.now.nodes) }
         ensures cost { steps.new ≡ steps.old + visits self.now.nodes key.now }
         ensures few { steps.new ≤ steps.old + (length key.now + 1) }
@@ -97,9 +102,12 @@ impl Index {
     ///
     /// Out of memory, also if the list would take more than 268,435,456 bytes.
     pub fn all<L: Ledger>(&self, alloc: Global, steps: &mut Steps<L>) -> Result<Pairs, AllocError>
-        ensures listing { IfOk result (λ found. IsListing (at self.now.nodes (root self.now.nodes)) (shown_pairs found)) }
-        ensures map { (m : KeyValues) → Holds self.now.nodes m → IfOk result (λ found. IsListing (values_of m) (shown_pairs found)) }
-        ensures held { IfOk result (λ found. IsListing (values_of (contents self.now.nodes)) (shown_pairs found)) }
+        ensures listing { IfOk result
+            (λ found. IsListing (at self.now.nodes (root self.now.nodes)) (shown_pairs found)) }
+        ensures map { (m : KeyValues) → Holds self.now.nodes m
+            → IfOk result (λ found. IsListing (values_of m) (shown_pairs found)) }
+        ensures held { IfOk result
+            (λ found. IsListing (values_of (contents self.now.nodes)) (shown_pairs found)) }
         ensures cost { steps.new ≤ steps.old + node_count self.now.nodes }
     {
         let mut found = Vec::new(alloc);
@@ -126,9 +134,13 @@ impl Index {
         text: &[u8],
         steps: &mut Steps<L>,
     ) -> Result<Values, AllocError>
-        ensures wild { IfOk result (λ found. IsWild (at self.now.nodes (root self.now.nodes)) text.now (found_values found)) }
-        ensures map { (m : KeyValues) → Holds self.now.nodes m → IfOk result (λ found. IsWild (values_of m) text.now (found_values found)) }
-        ensures exact { IfOk result (λ found. found_values found ≡ wild_values (contents self.now.nodes) text.now) }
+        ensures wild { IfOk result
+            (λ found. IsWild (at self.now.nodes (root self.now.nodes)) text.now
+            (found_values found)) }
+        ensures map { (m : KeyValues) → Holds self.now.nodes m
+            → IfOk result (λ found. IsWild (values_of m) text.now (found_values found)) }
+        ensures exact { IfOk result
+            (λ found. found_values found ≡ wild_values (contents self.now.nodes) text.now) }
         ensures cost { steps.new ≤ steps.old + node_count self.now.nodes }
     {
         let mut found = self.matching(alloc, text, steps)?;
@@ -144,8 +156,12 @@ impl Index {
         text: &[u8],
         steps: &mut Steps<L>,
     ) -> Result<Vec<Value>, AllocError>
-        ensures matching { IfOk result (λ found. IsMatching (at self.now.nodes (root self.now.nodes)) text.now (found_values found.items)) }
-        ensures exact { IfOk result (λ found. found_values found.items ≡ values_matching (entries (contents self.now.nodes)) text.now) }
+        ensures matching { IfOk result
+            (λ found. IsMatching (at self.now.nodes (root self.now.nodes)) text.now
+            (found_values found.items)) }
+        ensures exact { IfOk result
+            (λ found. found_values found.items
+            ≡ values_matching (entries (contents self.now.nodes)) text.now) }
         ensures cost { steps.new ≤ steps.old + node_count self.now.nodes }
     {
         let mut found = Vec::new(alloc);
@@ -176,7 +192,11 @@ fn push_node(
     requires walking { IsWalking nodes.now walk.old }
     ensures walking { OnOk result (IsWalking nodes.now walk.new) }
     ensures levels { OnOk result (walk.new.levels.items ≡ walk.old.levels.items) }
-    ensures pairs { OnOk result (shown_pairs found.new.items ≡ shown_pairs found.old.items ++ map (λ v. (walk_key nodes.now walk.old, v)) (values nodes.now (link_of node.now))) }
+    ensures pairs { OnOk result
+        (shown_pairs found.new.items
+        ≡ shown_pairs found.old.items
+        ++ map (λ v. (walk_key nodes.now walk.old, v))
+        (values nodes.now (link_of node.now))) }
 {
     if nodes.first_value(node).is_none() {
         return Ok(());

@@ -14,9 +14,9 @@
 //! it has a value. A [`FirstWalk`] answers one key at a time, and has no limit.
 //!
 //! Many prefixes may share their last bytes. Once as many bytes were read as the file has, tables
-//! are made before a long prefix: where runs of `*` and of the items of a set end, and which ends of
-//! keys match which ends of the text. So matching takes time in proportion to the file for each 64
-//! bytes of the text.
+//! are made before a long prefix: where runs of `*` and of the items of a set end, and which ends
+//! of keys match which ends of the text. So matching takes time in proportion to the file for each
+//! 64 bytes of the text.
 //!
 //! Each node that is read is a step on the ledger that the caller gives; the lookups of [`plain`]
 //! and a [`FirstWalk`] count nothing. The crate builds on `index_nodes`, which reads the nodes, on

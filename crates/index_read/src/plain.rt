@@ -35,8 +35,10 @@ fn has_value_over<L: Ledger>(index: &Index, key: &[u8], blank: Blank) -> bool
 
 /// Finds the text of the first value of the key, or `None` exactly if the key has no value.
 pub fn first_text<'a>(index: &'a Index, key: &[u8]) -> Option<&'a [u8]>
-    ensures reached { option_copied result ≡ text_of_first (at index.now.nodes (root index.now.nodes) key.now) }
-    ensures held { option_copied result ≡ text_of_first (values_of (contents index.now.nodes) key.now) }
+    ensures reached { option_copied result
+        ≡ text_of_first (at index.now.nodes (root index.now.nodes) key.now) }
+    ensures held { option_copied result
+        ≡ text_of_first (values_of (contents index.now.nodes) key.now) }
 {
     first_text_over::<Brand>(index, key, Blank::new(1))
 }
@@ -45,8 +47,10 @@ fn first_text_over<'a, L: Ledger>(index: &'a Index, key: &[u8], blank: Blank) ->
     requires ledger { blank.name ≡ L.name }
     requires parts { blank.parts ≡ L.parts }
     requires some { 0 < blank.parts }
-    ensures reached { option_copied result ≡ text_of_first (at index.now.nodes (root index.now.nodes) key.now) }
-    ensures held { option_copied result ≡ text_of_first (values_of (contents index.now.nodes) key.now) }
+    ensures reached { option_copied result
+        ≡ text_of_first (at index.now.nodes (root index.now.nodes) key.now) }
+    ensures held { option_copied result
+        ≡ text_of_first (values_of (contents index.now.nodes) key.now) }
 {
     let mut steps = Steps::<L>::new(blank);
     let place = index.find_one(key, &mut steps)?;
@@ -59,7 +63,8 @@ fn first_text_over<'a, L: Ledger>(index: &'a Index, key: &[u8], blank: Blank) ->
 ///
 /// Out of memory.
 pub fn values(alloc: Global, index: &Index, key: &[u8]) -> Result<Values, AllocError>
-    ensures { IfOk result (λ found. found_values found ≡ values_of (contents index.now.nodes) key.now) }
+    ensures { IfOk result
+        (λ found. found_values found ≡ values_of (contents index.now.nodes) key.now) }
 {
     values_over::<Brand>(alloc, index, key, Blank::new(1))
 }
@@ -73,7 +78,8 @@ fn values_over<L: Ledger>(
     requires ledger { blank.name ≡ L.name }
     requires parts { blank.parts ≡ L.parts }
     requires some { 0 < blank.parts }
-    ensures { IfOk result (λ found. found_values found ≡ values_of (contents index.now.nodes) key.now) }
+    ensures { IfOk result
+        (λ found. found_values found ≡ values_of (contents index.now.nodes) key.now) }
 {
     let mut steps = Steps::<L>::new(blank);
     index.find(alloc, key, &mut steps)
@@ -86,7 +92,8 @@ fn values_over<L: Ledger>(
 ///
 /// Out of memory, as by [`Index::wild`].
 pub fn matching(alloc: Global, index: &Index, text: &[u8]) -> Result<Values, AllocError>
-    ensures { IfOk result (λ found. found_values found ≡ wild_values (contents index.now.nodes) text.now) }
+    ensures { IfOk result
+        (λ found. found_values found ≡ wild_values (contents index.now.nodes) text.now) }
 {
     matching_over::<Brand>(alloc, index, text, Blank::new(1))
 }
@@ -100,7 +107,8 @@ fn matching_over<L: Ledger>(
     requires ledger { blank.name ≡ L.name }
     requires parts { blank.parts ≡ L.parts }
     requires some { 0 < blank.parts }
-    ensures { IfOk result (λ found. found_values found ≡ wild_values (contents index.now.nodes) text.now) }
+    ensures { IfOk result
+        (λ found. found_values found ≡ wild_values (contents index.now.nodes) text.now) }
 {
     let mut steps = Steps::<L>::new(blank);
     index.wild(alloc, text, &mut steps)
@@ -112,7 +120,8 @@ fn matching_over<L: Ledger>(
 ///
 /// Out of memory, as by [`Index::all`].
 pub fn all_pairs(alloc: Global, index: &Index) -> Result<Pairs, AllocError>
-    ensures { IfOk result (λ pairs. IsListing (values_of (contents index.now.nodes)) (shown_pairs pairs)) }
+    ensures { IfOk result
+        (λ pairs. IsListing (values_of (contents index.now.nodes)) (shown_pairs pairs)) }
 {
     all_pairs_over::<Brand>(alloc, index, Blank::new(1))
 }
@@ -125,7 +134,8 @@ fn all_pairs_over<L: Ledger>(
     requires ledger { blank.name ≡ L.name }
     requires parts { blank.parts ≡ L.parts }
     requires some { 0 < blank.parts }
-    ensures { IfOk result (λ pairs. IsListing (values_of (contents index.now.nodes)) (shown_pairs pairs)) }
+    ensures { IfOk result
+        (λ pairs. IsListing (values_of (contents index.now.nodes)) (shown_pairs pairs)) }
 {
     let mut steps = Steps::<L>::new(blank);
     index.all(alloc, &mut steps)

@@ -1,4 +1,5 @@
-ghost use Rattle.std.specs.Prelude.{◌≡◌, ◌+◌, [], ◌∷◌, length, drop, nat_eq, true, false, None, IfSome, MatchOption, option_map};
+ghost use Rattle.std.specs.Prelude.{◌≡◌, ◌+◌, [], ◌∷◌, length, drop, nat_eq, true, false, None};
+ghost use Rattle.std.specs.Prelude.{IfSome, MatchOption, option_map};
 ghost use Rattle.std.specs.List.{starts_with};
 ghost use Rattle.index_format.specs.Node.{root};
 ghost use Rattle.index_format.specs.Check.{index_fault};
@@ -11,7 +12,8 @@ use std::sync::ledger::Ledger;
 /// Returns what is left of a key after a prefix, or `None` if it doesn't begin with the prefix.
 fn rest_after<'k>(key: &'k [u8], prefix: &[u8]) -> Option<&'k [u8]>
     ensures { MatchOption result (starts_with nat_eq key.now prefix.now ≡ false)
-        (λ rest. (starts_with nat_eq key.now prefix.now ≡ true) × (drop (length prefix.now) key.now ≡ rest.now)) }
+        (λ rest. (starts_with nat_eq key.now prefix.now ≡ true)
+        × (drop (length prefix.now) key.now ≡ rest.now)) }
 {
     if key.starts_with(prefix) {
         Some(&key[prefix.len()..])
@@ -33,7 +35,8 @@ fn split_byte(bytes: &[u8]) -> Option<(u8, &[u8])>
 
 /// Finds the node at which a key ends, or `None` if its walk is lost.
 pub(crate) fn reach<L: Ledger>(nodes: &Nodes, key: &[u8], steps: &mut Steps<L>) -> Option<Node>
-    ensures reached { option_map link_of result ≡ (walk nodes.now (root nodes.now) key.now).reached }
+    ensures reached { option_map link_of result
+        ≡ (walk nodes.now (root nodes.now) key.now).reached }
     ensures node { IfSome result (IsNodeOf nodes.now) }
     ensures cost { steps.new ≡ steps.old + visits nodes.now key.now }
     ensures accepted { index_fault nodes.now ≡ None }

@@ -1,8 +1,8 @@
 use km_names::FILE_LIMIT;
 use std::alloc::AllocError;
 
-/// How many bytes the list that a lookup in all keys answers may take. It is four times the greatest
-/// file.
+/// How many bytes the list that a lookup in all keys answers may take. It is four times the
+/// greatest file.
 const ROOM: usize = 4 * FILE_LIMIT;
 
 /// How many bytes may still be taken. Nodes may overlap, and the keys of a chain of nodes begin

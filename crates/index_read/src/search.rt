@@ -1,4 +1,5 @@
-ghost use Rattle.std.specs.Prelude.{◌≡◌, ℕ, ◌+◌, ◌-◌, ◌≤◌, ◌∷◌, ◌++◌, List, [], length, take, drop, IfOk, OnOk, IsTrue, ◌↔◌, None, true, false};
+ghost use Rattle.std.specs.Prelude.{◌≡◌, ℕ, ◌+◌, ◌-◌, ◌≤◌, ◌∷◌, ◌++◌, List, [], length, take, drop};
+ghost use Rattle.std.specs.Prelude.{IfOk, OnOk, IsTrue, ◌↔◌, None, true, false};
 ghost use Rattle.index_format.specs.Check.{index_fault};
 ghost use Rattle.index_format.specs.Node.{prefix};
 ghost use Rattle.index_format.specs.Nodes.{IsNode};
@@ -8,7 +9,8 @@ ghost use Rattle.glob_match.specs.Progress.{IsWhole, IsOver, HasRead};
 ghost use Rattle.glob_match.specs.Ends.{AreEnds};
 ghost use Rattle.glob_match.specs.Runs.{AreRuns};
 ghost use Rattle.index_read.specs.Keys.{Item, all_items};
-ghost use Rattle.index_read.specs.Searches.{IsReady, IsSearching, Finds, Descends, Enters, Reads, count_left, count_after};
+ghost use Rattle.index_read.specs.Searches.{IsReady, IsSearching, Finds, Descends, Enters, Reads};
+ghost use Rattle.index_read.specs.Searches.{count_left, count_after};
 
 use crate::key_tables::KeyTables;
 use glob_match::{Ends, Progress, Runs, Saved};
@@ -35,8 +37,8 @@ pub(crate) struct Branch {
     pub(crate) key: Saved,
 }
 
-/// A search for the nodes whose keys, as patterns, match a text, in the order of their keys. What is
-/// below a key that reaches no place of the text is left out.
+/// A search for the nodes whose keys, as patterns, match a text, in the order of their keys. What
+/// is below a key that reaches no place of the text is left out.
 #[derive(Drop)]
 pub(crate) struct Search {
     /// How far the key that was read last can match.
@@ -51,8 +53,12 @@ pub(crate) struct Search {
 fn read_byte(progress: &mut Progress, byte: u8) -> Result<bool, AllocError>
     requires { IsWhole progress.old }
     ensures whole { OnOk result (IsWhole progress.new) }
-    ensures over { OnOk result ((text : List ℕ) → IsOver progress.old text → IsOver progress.new text) }
-    ensures read { IfOk result (λ alive. (text pattern : List ℕ) → IsOver progress.old text → HasRead progress.old text pattern → Reads text (pattern ++ byte ∷ []) progress.new alive) }
+    ensures over { OnOk result
+        ((text : List ℕ) → IsOver progress.old text → IsOver progress.new text) }
+    ensures read { IfOk result
+        (λ alive. (text pattern : List ℕ) → IsOver progress.old text
+        → HasRead progress.old text pattern
+        → Reads text (pattern ++ byte ∷ []) progress.new alive) }
 {
     progress.push(byte)?;
     Ok(!progress.is_lost())
@@ -72,8 +78,13 @@ fn read_range(
     requires order { range.0 ≤ range.1 }
     requires within { range.1 ≤ length file.now }
     ensures whole { OnOk result (IsWhole progress.new) }
-    ensures over { OnOk result ((text : List ℕ) → IsOver progress.old text → IsOver progress.new text) }
-    ensures read { IfOk result (λ alive. (text pattern : List ℕ) → IsOver progress.old text → HasRead progress.old text pattern → Reads text (pattern ++ take (range.1 - range.0) (drop range.0 file.now)) progress.new alive) }
+    ensures over { OnOk result
+        ((text : List ℕ) → IsOver progress.old text → IsOver progress.new text) }
+    ensures read { IfOk result
+        (λ alive. (text pattern : List ℕ) → IsOver progress.old text
+        → HasRead progress.old text pattern
+        → Reads text (pattern ++ take (range.1 - range.0) (drop range.0 file.now)) progress.new
+        alive) }
 {
     let (start, end) = range;
     let mut at = start;
@@ -104,8 +115,12 @@ fn read_end(
     requires order { range.0 ≤ range.1 }
     requires within { range.1 ≤ length file.now }
     ensures whole { OnOk result (IsWhole progress.new) }
-    ensures over { OnOk result ((text : List ℕ) → IsOver progress.old text → IsOver progress.new text) }
-    ensures decides { IfOk result (λ r. (text pattern : List ℕ) → IsOver progress.old text → HasRead progress.old text pattern → (IsTrue r ↔ Matches (pattern ++ take (range.1 - range.0) (drop range.0 file.now)) text)) }
+    ensures over { OnOk result
+        ((text : List ℕ) → IsOver progress.old text → IsOver progress.new text) }
+    ensures decides { IfOk result
+        (λ r. (text pattern : List ℕ) → IsOver progress.old text → HasRead progress.old text pattern
+        → (IsTrue r
+        ↔ Matches (pattern ++ take (range.1 - range.0) (drop range.0 file.now)) text)) }
 {
     let (start, end) = range;
     let mut at = start;
@@ -136,8 +151,12 @@ fn read_prefix(
     requires ready { IsReady nodes.now progress.old known.old }
     ensures whole { OnOk result (IsWhole progress.new) }
     ensures ready { OnOk result (IsReady nodes.now progress.new known.new) }
-    ensures over { OnOk result ((text : List ℕ) → IsOver progress.old text → IsOver progress.new text) }
-    ensures enters { IfOk result (λ o. (text pattern : List ℕ) → IsOver progress.old text → HasRead progress.old text pattern → Enters nodes.now text (pattern ++ prefix nodes.now (link_of node.now)) (link_of node.now) progress.new o) }
+    ensures over { OnOk result
+        ((text : List ℕ) → IsOver progress.old text → IsOver progress.new text) }
+    ensures enters { IfOk result
+        (λ o. (text pattern : List ℕ) → IsOver progress.old text → HasRead progress.old text pattern
+        → Enters nodes.now text (pattern ++ prefix nodes.now (link_of node.now))
+        (link_of node.now) progress.new o) }
 {
     let range = nodes.prefix_range(node);
     let file = nodes.bytes();
@@ -177,8 +196,12 @@ fn enter<L: Ledger>(
     ensures cost { steps.new ≤ steps.old + 1 }
     ensures whole { OnOk result (IsWhole progress.new) }
     ensures ready { OnOk result (IsReady nodes.now progress.new known.new) }
-    ensures over { OnOk result ((text : List ℕ) → IsOver progress.old text → IsOver progress.new text) }
-    ensures enters { IfOk result (λ o. (text pattern : List ℕ) → IsOver progress.old text → HasRead progress.old text pattern → Enters nodes.now text ((pattern ++ child.0 ∷ []) ++ prefix nodes.now child.1) child.1 progress.new o) }
+    ensures over { OnOk result
+        ((text : List ℕ) → IsOver progress.old text → IsOver progress.new text) }
+    ensures enters { IfOk result
+        (λ o. (text pattern : List ℕ) → IsOver progress.old text → HasRead progress.old text pattern
+        → Enters nodes.now text ((pattern ++ child.0 ∷ []) ++ prefix nodes.now child.1) child.1
+        progress.new o) }
 {
     let (byte, at) = child;
     if !read_byte(progress, byte)? {
@@ -243,9 +266,13 @@ impl Search {
         steps: &mut Steps<L>,
     ) -> Result<Option<FoundNode>, AllocError>
         requires accepted { index_fault nodes.now ≡ None }
-        requires searching { (text : List ℕ) × ((is : List Item) × IsSearching nodes.now text self.old is) }
-        ensures finds { IfOk result (λ o. (text : List ℕ) (is : List Item) → IsSearching nodes.now text self.old is → Finds nodes.now text is self.new o) }
-        ensures cost { steps.new + count_after result nodes.now self.new.levels.items ≤ steps.old + count_left nodes.now self.old.levels.items }
+        requires searching { (text : List ℕ)
+            × ((is : List Item) × IsSearching nodes.now text self.old is) }
+        ensures finds { IfOk result
+            (λ o. (text : List ℕ) (is : List Item) → IsSearching nodes.now text self.old is
+            → Finds nodes.now text is self.new o) }
+        ensures cost { steps.new + count_after result nodes.now self.new.levels.items
+            ≤ steps.old + count_left nodes.now self.old.levels.items }
     {
         while let Some(level) = self.levels.pop() {
             let top = self.saved.len() - level.key.words();

@@ -42,7 +42,9 @@ pub(crate) fn push_values(
     room: &mut Room,
 ) -> Result<(), AllocError>
     requires { IsNodeOf nodes.now node.now }
-    ensures { OnOk result (found_values found.new.items ≡ found_values found.old.items ++ values nodes.now (link_of node.now)) }
+    ensures { OnOk result
+        (found_values found.new.items
+        ≡ found_values found.old.items ++ values nodes.now (link_of node.now)) }
 {
     let mut next = nodes.first_value(node);
     while let Some(place) = next {
@@ -68,7 +70,10 @@ pub(crate) fn push_pairs(
     room: &mut Room,
 ) -> Result<(), AllocError>
     requires { IsNodeOf nodes.now node.now }
-    ensures { OnOk result (shown_pairs found.new.items ≡ shown_pairs found.old.items ++ map (λ v. (key.now, v)) (values nodes.now (link_of node.now))) }
+    ensures { OnOk result
+        (shown_pairs found.new.items
+        ≡ shown_pairs found.old.items
+        ++ map (λ v. (key.now, v)) (values nodes.now (link_of node.now))) }
 {
     let mut next = nodes.first_value(node);
     while let Some(place) = next {

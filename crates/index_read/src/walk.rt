@@ -1,8 +1,10 @@
-ghost use Rattle.std.specs.Prelude.{◌≡◌, ℕ, List, ◌+◌, ◌≤◌, ◌∷◌, ◌++◌, [], length, IfOk, OnOk, Some, None};
+ghost use Rattle.std.specs.Prelude.{◌≡◌, ℕ, List, ◌+◌, ◌≤◌, ◌∷◌, ◌++◌, [], length, IfOk, OnOk};
+ghost use Rattle.std.specs.Prelude.{Some, None};
 ghost use Rattle.index_format.specs.Check.{index_fault};
 ghost use Rattle.index_nodes.specs.Fields.{link_of, IsNodeOf};
 ghost use Rattle.index_read.specs.Keys.{all_items, piece};
-ghost use Rattle.index_read.specs.Walks.{walk_key, left, left_after, IsWritten, IsWalking, GoesOn, after_byte, level_of};
+ghost use Rattle.index_read.specs.Walks.{walk_key, left, left_after, IsWritten, IsWalking, GoesOn};
+ghost use Rattle.index_read.specs.Walks.{after_byte, level_of};
 
 use index_nodes::{Node, Nodes, Steps};
 use std::alloc::{AllocError, Global};
@@ -37,7 +39,9 @@ impl KeyWalk {
         steps: &mut Steps<L>,
     ) -> Result<(KeyWalk, Node), AllocError>
         ensures cost { steps.new ≡ steps.old + 1 }
-        ensures still { IfOk result (λ r. all_items nodes.now ≡ (walk_key nodes.now r.0, link_of r.1) ∷ left nodes.now r.0) }
+        ensures still { IfOk result
+            (λ r. all_items nodes.now
+            ≡ (walk_key nodes.now r.0, link_of r.1) ∷ left nodes.now r.0) }
         ensures node { IfOk result (λ r. IsNodeOf nodes.now r.1) }
         ensures walking { IfOk result (λ r. IsWalking nodes.now r.0) }
         ensures accepted { index_fault nodes.now ≡ None }
@@ -62,7 +66,10 @@ impl KeyWalk {
         requires { byte ≤ 127 }
         ensures key { OnOk result (self.new.key.items ≡ self.old.key.items) }
         ensures written { OnOk result (self.new.written ≡ self.old.written) }
-        ensures levels { OnOk result (self.new.levels.items ≡ (self.old.levels.items ++ after_byte level.now byte ∷ []) ++ level_of node.now (Some byte) ∷ []) }
+        ensures levels { OnOk result
+            (self.new.levels.items
+            ≡ (self.old.levels.items ++ after_byte level.now byte ∷ [])
+            ++ level_of node.now (Some byte) ∷ []) }
     {
         self.levels.push(Level {
             node: level.node,
@@ -80,9 +87,11 @@ impl KeyWalk {
     /// Drops what is written of a level that the walk left.
     fn leave(&mut self, nodes: &Nodes, level: &Level)
         requires node { IsNodeOf nodes.now level.now.node }
-        requires written { IsWritten nodes.now self.old.key.items self.old.written (self.old.levels.items ++ level.now ∷ []) }
+        requires written { IsWritten nodes.now self.old.key.items self.old.written
+            (self.old.levels.items ++ level.now ∷ []) }
         ensures levels { self.new.levels.items ≡ self.old.levels.items }
-        ensures written { IsWritten nodes.now self.new.key.items self.new.written self.new.levels.items }
+        ensures written { IsWritten nodes.now self.new.key.items self.new.written
+            self.new.levels.items }
     {
         let count = self.levels.len();
         if self.written > count {
@@ -111,7 +120,8 @@ impl KeyWalk {
         requires walking { IsWalking nodes.now self.old }
         requires accepted { index_fault nodes.now ≡ None }
         ensures goes_on { IfOk result (GoesOn nodes.now self.old self.new) }
-        ensures cost { steps.new + length (left_after result nodes.now self.new) ≤ steps.old + length (left nodes.now self.old) }
+        ensures cost { steps.new + length (left_after result nodes.now self.new)
+            ≤ steps.old + length (left nodes.now self.old) }
     {
         while let Some(level) = self.levels.pop() {
             let Some((byte, at)) = nodes.next_child(&level.node, level.next) else {
@@ -128,7 +138,8 @@ impl KeyWalk {
     /// Writes the bytes by which the key of a level goes on.
     fn write(&mut self, nodes: &Nodes, level: &Level) -> Result<(), AllocError>
         requires { IsNodeOf nodes.now level.now.node }
-        ensures key { OnOk result (self.new.key.items ≡ self.old.key.items ++ piece nodes.now level.now) }
+        ensures key { OnOk result
+            (self.new.key.items ≡ self.old.key.items ++ piece nodes.now level.now) }
         ensures levels { OnOk result (self.new.levels ≡ self.old.levels) }
     {
         let prefix = nodes.prefix(&level.node);

@@ -1,5 +1,6 @@
 -- The longest prefix that is common to keys that rise is common to the first and the last of them.
-use Rattle.std.proofs.Common.{◌≡◌, refl, sym, ap, ◌∙◌, ◌⊎◌, inl, inr, ℕ, ◌-◌, ◌<◌, cond, ◌==◌, List, [], ◌∷◌, length, drop, Some, slice_get, arith}
+use Rattle.std.proofs.Common.{◌≡◌, refl, sym, ap, ◌∙◌, ◌⊎◌, inl, inr, ℕ, ◌-◌, ◌<◌, cond, ◌==◌, List}
+use Rattle.std.proofs.Common.{[], ◌∷◌, length, drop, Some, slice_get, arith}
 use Rattle.std.proofs.lemmas.Bool.{eq-eqb, ne_eqb, lt-ltb}
 use Rattle.std.specs.Ordering.{ordering_then}
 use Rattle.std.specs.declared.cmp.Ordering.TheVariants.{Less, Equal, Greater}
@@ -20,7 +21,8 @@ common-self [] = refl
 common-self (x ∷ a) = common-same x x a a refl ∙ ap (λ r. x ∷ r) (common-self a)
 
 less_first : (x z : ℕ) (a f : List ℕ) → x < z → R (x ∷ a) (z ∷ f) ≡ Less
-less_first x z a f h = ap (λ t. ordering_then (cond t Less (cond (x == z) Equal Greater)) (R a f)) (lt-ltb x z h)
+less_first x z a f h =
+    ap (λ t. ordering_then (cond t Less (cond (x == z) Equal Greater)) (R a f)) (lt-ltb x z h)
 
 -- what a has in common with k, and then with f, where k is between them
 abbrev Squeezed : List ℕ → List ℕ → List ℕ → Type 0
@@ -34,12 +36,17 @@ squeezed_low x y z a k f lt lz =
 
 squeezed_high : (x y z : ℕ) (a k f : List ℕ) → x ≡ y → y < z → Squeezed (x ∷ a) (y ∷ k) (z ∷ f)
 squeezed_high x y z a k f e lt =
-    let away : x ≡ z → ⊥ = λ q. omega (arith, q, e, lt) in
-    (ap (λ c. common c (z ∷ f)) (common-same x y a k e) ∙ common-apart x z (common a k) f away ∙ sym (common-apart x z a f away), less_first x z a f (omega (arith, e, lt)))
+    let away : x ≡ z → ⊥ = λ q. omega (arith, q, e, lt) in (
+      ap (λ c. common c (z ∷ f)) (common-same x y a k e) ∙ common-apart x z (common a k) f away
+          ∙ sym (common-apart x z a f away),
+      less_first x z a f (omega (arith, e, lt)),
+    )
 
-squeezed_same : (x y z : ℕ) (a k f : List ℕ) → x ≡ y → y ≡ z → Squeezed a k f → Squeezed (x ∷ a) (y ∷ k) (z ∷ f)
+squeezed_same : (x y z : ℕ) (a k f : List ℕ) → x ≡ y → y ≡ z → Squeezed a k f
+    → Squeezed (x ∷ a) (y ∷ k) (z ∷ f)
 squeezed_same x y z a k f e g s = (
-  ap (λ c. common c (z ∷ f)) (common-same x y a k e) ∙ common-same x z (common a k) f (e ∙ g) ∙ ap (λ r. x ∷ r) s.0 ∙ sym (common-same x z a f (e ∙ g)),
+  ap (λ c. common c (z ∷ f)) (common-same x y a k e) ∙ common-same x z (common a k) f (e ∙ g)
+      ∙ ap (λ r. x ∷ r) s.0 ∙ sym (common-same x z a f (e ∙ g)),
   ap (λ c. R (x ∷ a) (c ∷ f)) (sym (e ∙ g)) ∙ same_byte x a f ∙ s.1,
 )
 
@@ -69,7 +76,8 @@ last_key : List ℕ → List Entry → List ℕ
 last_key k [] = k
 last_key k (e ∷ es) = last_key e.0 es
 
-narrowed-ends : (a k : List ℕ) (es : List Entry) → (a ≡ k) ⊎ (R a k ≡ Less) → Above k es → Rises es → narrowed (common a k) es ≡ common a (last_key k es)
+narrowed-ends : (a k : List ℕ) (es : List Entry) → (a ≡ k) ⊎ (R a k ≡ Less) → Above k es → Rises es
+    → narrowed (common a k) es ≡ common a (last_key k es)
 unfolding last_key
 narrowed-ends a k [] h above rises = refl
 narrowed-ends a k (f ∷ fs) h above rises =
@@ -77,12 +85,16 @@ narrowed-ends a k (f ∷ fs) h above rises =
     ap (λ p. narrowed p fs) s.0 ∙ narrowed-ends a f.0 fs (inr s.1) rises.0 rises.1
 
 -- the last of the entries at a depth
-last-place : (d : ℕ) (e : KeyEntry) (es : List KeyEntry) (last : KeyEntry) → slice_get (e ∷ es) (length es) ≡ Some last → last_key (drop d e.key.now) (at_depth d es) ≡ drop d last.key.now
+last-place : (d : ℕ) (e : KeyEntry) (es : List KeyEntry) (last : KeyEntry)
+    → slice_get (e ∷ es) (length es) ≡ Some last
+    → last_key (drop d e.key.now) (at_depth d es) ≡ drop d last.key.now
 unfolding last_key
 last-place d e [] last is = ap (λ x. drop d x.key.now) (same_one e last is)
 last-place d e (f ∷ es) last is = last-place d f es last is
 
-pub ends_prefix : (d : ℕ) (es : List KeyEntry) (first last : KeyEntry) → slice_get es 0 ≡ Some first → slice_get es (length es - 1) ≡ Some last → Rises (at_depth d es) → common (drop d first.key.now) (drop d last.key.now) ≡ common_prefix (at_depth d es)
+pub ends_prefix : (d : ℕ) (es : List KeyEntry) (first last : KeyEntry) → slice_get es 0 ≡ Some first
+    → slice_get es (length es - 1) ≡ Some last → Rises (at_depth d es)
+    → common (drop d first.key.now) (drop d last.key.now) ≡ common_prefix (at_depth d es)
 ends_prefix d [] first last is at rises = absurd (none_there first is)
 ends_prefix d (e ∷ es) first last is at rises =
     let place : length (e ∷ es) - 1 ≡ length es = omega arith in

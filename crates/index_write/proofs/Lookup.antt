@@ -1,5 +1,7 @@
 -- The walks of keys through the nodes that were written.
-use Rattle.std.proofs.Common.{◌≡◌, refl, sym, ap, subst, ◌∙◌, ◌⊎◌, inl, inr, ⊎_elim, ℕ, ◌<◌, Bool, true, false, cond, ◌==◌, ◌&&◌, nat_eq, List, [], ◌∷◌, ◌++◌, length, drop, Option, Some, None, unwrap_or, arith}
+use Rattle.std.proofs.Common.{◌≡◌, refl, sym, ap, subst, ◌∙◌, ◌⊎◌, inl, inr, ⊎_elim, ℕ, ◌<◌, Bool}
+use Rattle.std.proofs.Common.{true, false, cond, ◌==◌, ◌&&◌, nat_eq, List, [], ◌∷◌, ◌++◌, length}
+use Rattle.std.proofs.Common.{drop, Option, Some, None, unwrap_or, arith}
 use Rattle.std.proofs.lemmas.Bool.{eqb-true, eq-eqb}
 use Rattle.std.proofs.lemmas.Bool.Decides.{eqb_tells}
 use Rattle.std.specs.FinMap.{find, nat_cmp-IsAntisymmetric, slice_cmp-IsAntisymmetric}
@@ -9,7 +11,8 @@ use Rattle.std.specs.declared.cmp.Ordering.{Ordering}
 use Rattle.std.specs.declared.cmp.Ordering.TheVariants.{Less, Equal, Greater}
 use Rattle.index_format.specs.Map.{Value}
 use Rattle.index_format.specs.Tree.{Entry, cut, ending, grouped, groups, Above, Rises}
-use Rattle.index_format.proofs.TreeLemmas.{R, same_byte, same_front, Above-goes_on, AllFront, Front-drop, groups-above}
+use Rattle.index_format.proofs.TreeLemmas.{R, same_byte, same_front, Above-goes_on, AllFront}
+use Rattle.index_format.proofs.TreeLemmas.{Front-drop, groups-above}
 use Rattle.index_write.specs.Lists.{found}
 
 -- ---- keys among entries
@@ -31,29 +34,39 @@ no_empty ((c ∷ k, v) ∷ es) h = no_empty es h.1
 pub found-ending : (es : List Entry) → Rises es → found es [] ≡ ending es
 found-ending [] h = refl
 found-ending (([], v) ∷ es) h = refl
-found-ending ((c ∷ k, v) ∷ es) h = ap (λ o. unwrap_or o []) (no_empty es (Above-goes_on (c ∷ k) es h.0))
+found-ending ((c ∷ k, v) ∷ es) h =
+    ap (λ o. unwrap_or o []) (no_empty es (Above-goes_on (c ∷ k) es h.0))
 
-cons_same : (p k : List ℕ) (x : ℕ) → (e : List ℕ) → e ≡ p ++ drop (length p) e → R (p ++ k) e ≡ R k (drop (length p) e)
+cons_same : (p k : List ℕ) (x : ℕ) → (e : List ℕ) → e ≡ p ++ drop (length p) e
+    → R (p ++ k) e ≡ R k (drop (length p) e)
 cons_same p k x e h = ap (R (p ++ k)) h ∙ same_front p k (drop (length p) e)
 
-pub found-behind : (p k : List ℕ) (es : List Entry) → AllFront p es → found es (p ++ k) ≡ found (cut (length p) es) k
+pub found-behind : (p k : List ℕ) (es : List Entry) → AllFront p es
+    → found es (p ++ k) ≡ found (cut (length p) es) k
 found-behind p k es h = ap (λ o. unwrap_or o []) (finds es h)
   where
     finds : (es : List Entry) → AllFront p es → find R (p ++ k) es ≡ find R k (cut (length p) es)
     finds [] h = refl
-    finds (e ∷ es) h = λ i. cond (is_eq ((ap (R (p ++ k)) (Front-drop p e.0 h.0) ∙ same_front p k (drop (length p) e.0)) i)) (Some e.1) (finds es h.1 i)
+    finds (e ∷ es) h
+        = λ i. cond (is_eq
+        ((ap (R (p ++ k)) (Front-drop p e.0 h.0) ∙ same_front p k (drop (length p) e.0)) i))
+        (Some e.1) (finds es h.1 i)
 
 -- ---- whether a key begins with a prefix
 
 pub starts_front : (p k : List ℕ) → starts_with nat_eq (p ++ k) p ≡ true
 starts_front [] k = refl
-starts_front (c ∷ p) k = ap (λ b. b && starts_with nat_eq (p ++ k) p) (eq-eqb c c refl) ∙ starts_front p k
+starts_front (c ∷ p) k =
+    ap (λ b. b && starts_with nat_eq (p ++ k) p) (eq-eqb c c refl) ∙ starts_front p k
 
-pub starts_back : (p key : List ℕ) → starts_with nat_eq key p ≡ true → key ≡ p ++ drop (length p) key
+pub starts_back : (p key : List ℕ) → starts_with nat_eq key p ≡ true
+    → key ≡ p ++ drop (length p) key
 starts_back [] key h = refl
 starts_back (c ∷ p) [] h = absurd (cc)
 starts_back (c ∷ p) (d ∷ key) h =
-    elim (nat_eq c d) as (λ t. nat_eq c d ≡ t → (t && starts_with nat_eq key p) ≡ true → d ∷ key ≡ c ∷ (p ++ drop (length p) key)) [
+    elim (nat_eq c d) as
+    (λ t. nat_eq c d ≡ t → (t && starts_with nat_eq key p) ≡ true
+    → d ∷ key ≡ c ∷ (p ++ drop (length p) key)) [
       | true ↦ λ e g. λ i. sym (eqb-true c d e) i ∷ starts_back p key g i
       | false ↦ λ e g. absurd (cc)
     ] refl h
@@ -64,7 +77,8 @@ same_key = slice_cmp-IsAntisymmetric nat_cmp-IsAntisymmetric
 pub true_false : true ≡ false → ⊥
 true_false e = cc
 
-pub found-other : (p key : List ℕ) (es : List Entry) → AllFront p es → starts_with nat_eq key p ≡ false → found es key ≡ []
+pub found-other : (p key : List ℕ) (es : List Entry) → AllFront p es
+    → starts_with nat_eq key p ≡ false → found es key ≡ []
 found-other p key es h out = ap (λ o. unwrap_or o []) (none es h)
   where
     none : (es : List Entry) → AllFront p es → find R key es ≡ None
@@ -72,7 +86,10 @@ found-other p key es h out = ap (λ o. unwrap_or o []) (none es h)
     none (e ∷ es) h =
         elim (R key e.0) as (λ o. R key e.0 ≡ o → cond (is_eq o) (Some e.1) (find R key es) ≡ None) [
           | Less ↦ λ q. none es h.1
-          | Equal ↦ λ q. absurd (true_false (sym (ap (λ k. starts_with nat_eq k p) (same_key key e.0 q ∙ h.0.1) ∙ starts_front p h.0.0) ∙ out))
+          | Equal ↦ λ q. absurd
+              (true_false (sym (ap (λ k. starts_with nat_eq k p) (same_key key e.0 q ∙ h.0.1)
+              ∙ starts_front p h.0.0)
+              ∙ out))
           | Greater ↦ λ q. none es h.1
         ] refl
 
@@ -107,7 +124,8 @@ ne_test a b h = ⊎_elim (λ p. absurd (h p.1)) (λ p. p.0) (eqb_tells a b)
 none_above : (c : ℕ) (gs : Groups) → AllAbove c gs → group_for c gs ≡ []
 none_above c [] h = refl
 none_above c ((d, es) ∷ gs) h =
-    ap (λ t. cond t es (group_for c gs)) (ne_test d c (λ e. omega (arith, e, h.0))) ∙ none_above c gs h.1
+    ap (λ t. cond t es (group_for c gs)) (ne_test d c (λ e. omega (arith, e, h.0)))
+    ∙ none_above c gs h.1
 
 pub no_group : (c : ℕ) (gs : Groups) → has c gs ≡ false → group_for c gs ≡ []
 no_group c [] h = refl
@@ -128,14 +146,18 @@ comes d j es h = at (groups es) (groups-above d j es h)
     at : (gs : Groups) → Comes d j gs → Comes d j gs
     at gs h = h
 
-above_unless : (d b : ℕ) (j : List ℕ) (fs : List Entry) (gs : Groups) → (d == b) ≡ false → (d < b) ⊎ ((d ≡ b) × Above j fs) → AllAbove b gs → AllAbove d ((b, fs) ∷ gs)
+above_unless : (d b : ℕ) (j : List ℕ) (fs : List Entry) (gs : Groups) → (d == b) ≡ false
+    → (d < b) ⊎ ((d ≡ b) × Above j fs) → AllAbove b gs → AllAbove d ((b, fs) ∷ gs)
 above_unless d b j fs gs other (inl lt) h = (lt, above_more d b gs lt h)
 above_unless d b j fs gs other (inr both) h = absurd (true_false (sym (eq-eqb d b both.0) ∙ other))
 
-grouped-bytes : (d : ℕ) (j : List ℕ) (w : List Value) (gs : Groups) → Comes d j gs → BytesRise gs → BytesRise (grouped d (j, w) gs)
+grouped-bytes : (d : ℕ) (j : List ℕ) (w : List Value) (gs : Groups) → Comes d j gs → BytesRise gs
+    → BytesRise (grouped d (j, w) gs)
 grouped-bytes d j w [] a h = (tt, tt)
 grouped-bytes d j w ((b, fs) ∷ gs) a h =
-    elim (d == b) as (λ t. (d == b) ≡ t → BytesRise (cond t ((b, (j, w) ∷ fs) ∷ gs) ((d, (j, w) ∷ []) ∷ (b, fs) ∷ gs))) [
+    elim (d == b) as
+    (λ t. (d == b) ≡ t
+    → BytesRise (cond t ((b, (j, w) ∷ fs) ∷ gs) ((d, (j, w) ∷ []) ∷ (b, fs) ∷ gs))) [
       | true ↦ λ same. h
       | false ↦ λ other. (above_unless d b j fs gs other a h.0, h)
     ] refl
@@ -143,11 +165,13 @@ grouped-bytes d j w ((b, fs) ∷ gs) a h =
 pub groups-bytes : (es : List Entry) → Rises es → BytesRise (groups es)
 groups-bytes [] h = tt
 groups-bytes (([], v) ∷ es) h = groups-bytes es h.1
-groups-bytes ((d ∷ j, w) ∷ es) h = grouped-bytes d j w (groups es) (comes d j es h.0) (groups-bytes es h.1)
+groups-bytes ((d ∷ j, w) ∷ es) h =
+    grouped-bytes d j w (groups es) (comes d j es h.0) (groups-bytes es h.1)
 
 -- ---- a key among groups
 
-pick : (w : List Value) (t : Bool) (x y : Option (List Value)) → unwrap_or x [] ≡ unwrap_or y [] → unwrap_or (cond t (Some w) x) [] ≡ unwrap_or (cond t (Some w) y) []
+pick : (w : List Value) (t : Bool) (x y : Option (List Value)) → unwrap_or x [] ≡ unwrap_or y []
+    → unwrap_or (cond t (Some w) x) [] ≡ unwrap_or (cond t (Some w) y) []
 pick w true x y e = refl
 pick w false x y e = e
 
@@ -156,22 +180,33 @@ module _ (c d : ℕ) (k j : List ℕ) (w : List Value) (same : d ≡ c) where
   ties : is_eq (R (c ∷ k) (d ∷ j)) ≡ is_eq (R k j)
   ties = ap is_eq (ap (λ x. R (c ∷ k) (x ∷ j)) same ∙ same_byte c k j)
 
-  first_here : (es : List Entry) (gs : Groups) → Comes d j gs → BytesRise gs → found es (c ∷ k) ≡ found (group_for c gs) k → found ((d ∷ j, w) ∷ es) (c ∷ k) ≡ found (group_for c (grouped d (j, w) gs)) k
+  first_here : (es : List Entry) (gs : Groups) → Comes d j gs → BytesRise gs
+      → found es (c ∷ k) ≡ found (group_for c gs) k
+      → found ((d ∷ j, w) ∷ es) (c ∷ k) ≡ found (group_for c (grouped d (j, w) gs)) k
   first_here es [] a h e =
       ap (λ t. unwrap_or (cond t (Some w) (find R (c ∷ k) es)) []) ties
       ∙ pick w (is_eq (R k j)) (find R (c ∷ k) es) None e
       ∙ ap (λ t. found (cond t ((j, w) ∷ []) []) k) (sym (eq-eqb d c same))
   first_here es ((b, fs) ∷ gs) a h e =
       ap (λ t. unwrap_or (cond t (Some w) (find R (c ∷ k) es)) []) ties
-      ∙ elim (d == b) as (λ t. (d == b) ≡ t → unwrap_or (cond (is_eq (R k j)) (Some w) (find R (c ∷ k) es)) [] ≡ found (group_for c (cond t ((b, (j, w) ∷ fs) ∷ gs) ((d, (j, w) ∷ []) ∷ (b, fs) ∷ gs))) k) [
+      ∙ elim (d == b) as
+      (λ t. (d == b) ≡ t
+      → unwrap_or (cond (is_eq (R k j)) (Some w) (find R (c ∷ k) es)) []
+      ≡ found (group_for c
+      (cond t ((b, (j, w) ∷ fs) ∷ gs) ((d, (j, w) ∷ []) ∷ (b, fs) ∷ gs))) k) [
         | true ↦ λ one.
             let here : (b == c) ≡ true = eq-eqb b c (sym (eqb-true d b one) ∙ same) in
-            pick w (is_eq (R k j)) (find R (c ∷ k) es) (find R k fs) (e ∙ ap (λ t. found (cond t fs (group_for c gs)) k) here)
+            pick w (is_eq (R k j)) (find R (c ∷ k) es) (find R k fs)
+            (e ∙ ap (λ t. found (cond t fs (group_for c gs)) k) here)
             ∙ ap (λ t. found (cond t ((j, w) ∷ fs) (group_for c gs)) k) (sym here)
         | false ↦ λ other.
-            let above = subst (λ x. AllAbove x ((b, fs) ∷ gs)) same (above_unless d b j fs gs other a h.0) in
-            pick w (is_eq (R k j)) (find R (c ∷ k) es) None (e ∙ ap (λ fs. found fs k) (none_above c ((b, fs) ∷ gs) above))
-            ∙ ap (λ t. found (cond t ((j, w) ∷ []) (group_for c ((b, fs) ∷ gs))) k) (sym (eq-eqb d c same))
+            let above
+            = subst (λ x. AllAbove x ((b, fs) ∷ gs)) same (above_unless d b j fs gs other a h.0)
+            in
+            pick w (is_eq (R k j)) (find R (c ∷ k) es) None
+            (e ∙ ap (λ fs. found fs k) (none_above c ((b, fs) ∷ gs) above))
+            ∙ ap (λ t. found (cond t ((j, w) ∷ []) (group_for c ((b, fs) ∷ gs))) k)
+            (sym (eq-eqb d c same))
       ] refl
 
 not_tied : (x y : List ℕ) → (x ≡ y → ⊥) → is_eq (R x y) ≡ false
@@ -190,25 +225,36 @@ heads : (c d : ℕ) (k j : List ℕ) → c ∷ k ≡ d ∷ j → d ≡ c
 unfolding head_of
 heads c d k j e = sym (ap head_of e)
 
-other_group : (c d : ℕ) (j : List ℕ) (w : List Value) (gs : Groups) → (d == c) ≡ false → group_for c (grouped d (j, w) gs) ≡ group_for c gs
+other_group : (c d : ℕ) (j : List ℕ) (w : List Value) (gs : Groups) → (d == c) ≡ false
+    → group_for c (grouped d (j, w) gs) ≡ group_for c gs
 other_group c d j w [] ne = ap (λ t. cond t ((j, w) ∷ []) []) ne
 other_group c d j w ((b, fs) ∷ gs) ne =
-    elim (d == b) as (λ t. (d == b) ≡ t → group_for c (cond t ((b, (j, w) ∷ fs) ∷ gs) ((d, (j, w) ∷ []) ∷ (b, fs) ∷ gs)) ≡ group_for c ((b, fs) ∷ gs)) [
+    elim (d == b) as
+    (λ t. (d == b) ≡ t
+    → group_for c (cond t ((b, (j, w) ∷ fs) ∷ gs) ((d, (j, w) ∷ []) ∷ (b, fs) ∷ gs))
+    ≡ group_for c ((b, fs) ∷ gs)) [
       | true ↦ λ one.
           let apart : (b == c) ≡ false = ap (λ x. x == c) (sym (eqb-true d b one)) ∙ ne in
-          ap (λ t. cond t ((j, w) ∷ fs) (group_for c gs)) apart ∙ ap (λ t. cond t fs (group_for c gs)) (sym apart)
+          ap (λ t. cond t ((j, w) ∷ fs) (group_for c gs)) apart
+          ∙ ap (λ t. cond t fs (group_for c gs)) (sym apart)
       | false ↦ λ other. ap (λ t. cond t ((j, w) ∷ []) (group_for c ((b, fs) ∷ gs))) ne
     ] refl
 
 -- a key that goes on is looked up in the group of its byte
-pub found-group : (c : ℕ) (k : List ℕ) (es : List Entry) → Rises es → found es (c ∷ k) ≡ found (group_for c (groups es)) k
+pub found-group : (c : ℕ) (k : List ℕ) (es : List Entry) → Rises es
+    → found es (c ∷ k) ≡ found (group_for c (groups es)) k
 found-group c k [] h = refl
 found-group c k (([], v) ∷ es) h = found-group c k es h.1
 found-group c k ((d ∷ j, w) ∷ es) h =
-    elim (d == c) as (λ t. (d == c) ≡ t → found ((d ∷ j, w) ∷ es) (c ∷ k) ≡ found (group_for c (grouped d (j, w) (groups es))) k) [
-      | true ↦ λ e. first_here c d k j w (eqb-true d c e) es (groups es) (comes d j es h.0) (groups-bytes es h.1) (found-group c k es h.1)
+    elim (d == c) as
+    (λ t. (d == c) ≡ t
+    → found ((d ∷ j, w) ∷ es) (c ∷ k)
+    ≡ found (group_for c (grouped d (j, w) (groups es))) k) [
+      | true ↦ λ e. first_here c d k j w (eqb-true d c e) es (groups es) (comes d j es h.0)
+          (groups-bytes es h.1) (found-group c k es h.1)
       | false ↦ λ e.
-          ap (λ t. unwrap_or (cond t (Some w) (find R (c ∷ k) es)) []) (not_tied (c ∷ k) (d ∷ j) (λ q. true_false (sym (eq-eqb d c (heads c d k j q)) ∙ e)))
+          ap (λ t. unwrap_or (cond t (Some w) (find R (c ∷ k) es)) [])
+          (not_tied (c ∷ k) (d ∷ j) (λ q. true_false (sym (eq-eqb d c (heads c d k j q)) ∙ e)))
           ∙ found-group c k es h.1
           ∙ ap (λ fs. found fs k) (sym (other_group c d j w (groups es) e))
     ] refl

@@ -43,7 +43,13 @@ leading byte (([], values) ∷ es) = 0
 leading byte ((c ∷ key, values) ∷ es) = if byte == c then suc (leading byte es) else 0
 
 abbrev pub part_of : TreeNode → Part
-part_of n = record { byte = n.byte; prefix = n.prefix.now; values = shown_values n.values.now; children = n.children }
+part_of n =
+    record {
+      byte = n.byte;
+      prefix = n.prefix.now;
+      values = shown_values n.values.now;
+      children = n.children;
+    }
 
 -- The entries of a group with the prefix of its node removed, and that node.
 abbrev pub below : List Entry → List Entry
@@ -51,9 +57,19 @@ below es = cut (length (common_prefix es)) es
 
 abbrev pub part_for : ℕ → List Entry → Part
 part_for byte es =
-    record { byte = byte; prefix = common_prefix es; values = ending (below es); children = span_of (map (λ g. g.0) (groups (below es))) }
+    record {
+      byte = byte;
+      prefix = common_prefix es;
+      values = ending (below es);
+      children = span_of (map (λ g. g.0) (groups (below es)));
+    }
 
 -- The root of the tree of entries.
 abbrev pub root_part : List Entry → Part
 root_part es =
-    record { byte = 0; prefix = []; values = ending es; children = span_of (map (λ g. g.0) (groups es)) }
+    record {
+      byte = 0;
+      prefix = [];
+      values = ending es;
+      children = span_of (map (λ g. g.0) (groups es));
+    }

@@ -1,6 +1,7 @@
 -- The writer's map from keys to lists of values, as a map of an index: how contracts see a
 -- `KeyMap`.
-use Rattle.std.specs.Prelude.{ℕ, ◌<◌, ◌^◌, List, [], length, map, unwrap_or, T, Vec, String, string_bytes}
+use Rattle.std.specs.Prelude.{ℕ, ◌<◌, ◌^◌, List, [], length, map, unwrap_or, T, Vec, String}
+use Rattle.std.specs.Prelude.{string_bytes}
 use Rattle.std.specs.List.{AllByRecursion}
 use Rattle.std.specs.declared.alloc.Global.{Global}
 use Rattle.std.specs.Ordering.{nat_cmp}

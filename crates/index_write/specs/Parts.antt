@@ -1,7 +1,8 @@
 -- The nodes of a file one after the other, as they are written: each finds the links to its
 -- children at the end of the waiting links.
 -- It belongs to the code: no public meaning rests on it.
-use Rattle.std.specs.Prelude.{ℕ, ◌+◌, ◌-◌, ◌*◌, ◌==◌, List, [], ◌∷◌, ◌++◌, length, take, drop, sum_by, flat_map, if◌then◌else◌}
+use Rattle.std.specs.Prelude.{ℕ, ◌+◌, ◌-◌, ◌*◌, ◌==◌, List, [], ◌∷◌, ◌++◌, length, take, drop}
+use Rattle.std.specs.Prelude.{sum_by, flat_map, if◌then◌else◌}
 use Rattle.index_format.specs.declared.numbers.TheConstants.{FIRST_PLACE, MAGIC, VERSION}
 use Rattle.index_format.specs.Map.{Value}
 use Rattle.index_format.specs.Link.{link_to}
@@ -30,14 +31,21 @@ last_of byte (b ∷ bytes) = last_of b bytes
 -- The range of some bytes.
 abbrev pub span_of : List ℕ → Span
 span_of [] = record { first = 0; last = 0; count = 0 }
-span_of (byte ∷ bytes) = record { first = byte; last = last_of byte bytes; count = length (byte ∷ bytes) }
+span_of (byte ∷ bytes) =
+    record { first = byte; last = last_of byte bytes; count = length (byte ∷ bytes) }
 
 -- The nodes in the order of the file.
 abbrev pub parts_of : Forest → List Part
 parts_of End = []
 parts_of (Branch byte prefix values below beside) =
     parts_of below
-    ++ (record { byte = byte; prefix = prefix; values = values; children = span_of (bytes_of below) }) ∷ parts_of beside
+    ++ (record {
+      byte = byte;
+      prefix = prefix;
+      values = values;
+      children = span_of (bytes_of below);
+    })
+    ∷ parts_of beside
 
 -- What is written after one more node, and after more nodes. The links are the waiting ones.
 unfoldable pub with_part : Part → Written → Written
@@ -45,7 +53,9 @@ with_part p w =
     let rest = length w.links - p.children.count in
     record {
       bytes = w.bytes ++ node_bytes p.prefix (drop rest w.links) p.values;
-      links = take rest w.links ++ (p.byte, link_to (length w.bytes) p.prefix (drop rest w.links) p.values) ∷ [];
+      links
+          = take rest w.links
+          ++ (p.byte, link_to (length w.bytes) p.prefix (drop rest w.links) p.values) ∷ [];
     }
 
 unfoldable pub with_parts : List Part → Written → Written

@@ -1,7 +1,9 @@
-ghost use Rattle.std.specs.Prelude.{◌≡◌, ℕ, ◌≤◌, ◌<◌, ◌+◌, ◌*◌, ◌^◌, ◌++◌, length, take, drop, map, slice_index, OnOk, IfOk};
+ghost use Rattle.std.specs.Prelude.{◌≡◌, ℕ, ◌≤◌, ◌<◌, ◌+◌, ◌*◌, ◌^◌, ◌++◌, length, take, drop, map};
+ghost use Rattle.std.specs.Prelude.{slice_index, OnOk, IfOk};
 ghost use Rattle.km_names.specs.Limit.{file_limit};
 ghost use Rattle.index_format.specs.declared.numbers.TheConstants.{FIRST_PLACE};
-ghost use Rattle.index_format.specs.File.{number, offset, prefix_field, children_field, values_field, value_bytes};
+ghost use Rattle.index_format.specs.File.{number, offset, prefix_field, children_field};
+ghost use Rattle.index_format.specs.File.{values_field, value_bytes};
 ghost use Rattle.index_write.specs.Lists.{value_of, shown_values};
 ghost use Rattle.index_write.specs.Parts.{with_part, with_parts, headed, rooted, offsets_bytes};
 ghost use Rattle.index_write.specs.Groups.{part_of};
@@ -72,7 +74,8 @@ fn push_offsets(
     count: usize,
 ) -> Result<(), AllocError>
     requires { first + count ≤ 256 }
-    ensures { OnOk result (out.new.items ≡ out.old.items ++ offsets_bytes (links_of links.now) first count) }
+    ensures { OnOk result
+        (out.new.items ≡ out.old.items ++ offsets_bytes (links_of links.now) first count) }
 {
     let table = offset_table(links);
     for n in 0..count {
@@ -108,7 +111,8 @@ fn push_value(out: &mut Vec<u8>, value: &StoredValue) -> Result<(), AllocError>
 /// Puts values at the end, with their count.
 fn push_values(out: &mut Vec<u8>, values: &[StoredValue]) -> Result<(), AllocError>
     requires { length values.now < 2 ^ 32 }
-    ensures { OnOk result (out.new.items ≡ out.old.items ++ values_field (shown_values values.now)) }
+    ensures { OnOk result
+        (out.new.items ≡ out.old.items ++ values_field (shown_values values.now)) }
 {
     if values.is_empty() {
         return Ok(());
@@ -123,7 +127,11 @@ fn push_values(out: &mut Vec<u8>, values: &[StoredValue]) -> Result<(), AllocErr
 /// Returns the offset of the node at a place, by whether it has a prefix, children and values.
 fn link_to(place: u32, has_prefix: bool, has_children: bool, has_values: bool) -> u32
     requires { place < 2 ^ 28 }
-    ensures { result ≡ bit has_prefix * HAS_PREFIX + bit has_values * HAS_VALUES + bit has_children * HAS_CHILDREN + place }
+    ensures { result
+        ≡ bit has_prefix * HAS_PREFIX
+        + bit has_values * HAS_VALUES
+        + bit has_children * HAS_CHILDREN
+        + place }
 {
     let prefix = if has_prefix { HAS_PREFIX } else { 0 };
     let values = if has_values { HAS_VALUES } else { 0 };
@@ -138,8 +146,11 @@ fn write_node(
     links: &mut Vec<ChildLink>,
     node: &TreeNode,
 ) -> Result<(), AllocError>
-    requires { length (with_part (part_of node.now) (state out.old.items links.old.items)).bytes ≤ file_limit }
-    ensures { OnOk result (state out.new.items links.new.items ≡ with_part (part_of node.now) (state out.old.items links.old.items)) }
+    requires { length (with_part (part_of node.now) (state out.old.items links.old.items)).bytes
+        ≤ file_limit }
+    ensures { OnOk result
+        (state out.new.items links.new.items
+        ≡ with_part (part_of node.now) (state out.old.items links.old.items)) }
 {
     let start = links.len().saturating_sub(node.children.count);
     let place = out.len() as u32;

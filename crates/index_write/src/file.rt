@@ -17,8 +17,10 @@ pub fn encode(alloc: Global, map: &KeyMap) -> Result<Blob, WriteFault>
     ensures file { IfOk result (λ b. b ≡ file map.now) }
     ensures holds { IfOk result (λ b. Holds b map.now) }
     ensures within { OnOk result (length (file map.now) ≤ file_limit) }
-    ensures too_large { (n : ℕ) → result ≡ Err (WriteFault.IndexTooLarge n) → file_limit < length (file map.now) }
-    ensures length { (n : ℕ) → result ≡ Err (WriteFault.IndexTooLarge n) → n ≡ min (length (file map.now)) (2 ^ 64 - 1) }
+    ensures too_large { (n : ℕ) → result ≡ Err (WriteFault.IndexTooLarge n)
+        → file_limit < length (file map.now) }
+    ensures length { (n : ℕ) → result ≡ Err (WriteFault.IndexTooLarge n)
+        → n ≡ min (length (file map.now)) (2 ^ 64 - 1) }
 {
     let entries = map.entries(alloc)?;
     let nodes = nodes(alloc, &entries)?;

@@ -1,4 +1,5 @@
-ghost use Rattle.std.specs.Prelude.{◌≡◌, ◌≤◌, ℕ, List, [], ◌∷◌, OnOk, OnErr, IfOk, length, insert, string_bytes};
+ghost use Rattle.std.specs.Prelude.{◌≡◌, ◌≤◌, ℕ, List, [], ◌∷◌, OnOk, OnErr, IfOk, length, insert};
+ghost use Rattle.std.specs.Prelude.{string_bytes};
 ghost use Rattle.index_format.specs.Map.{place};
 ghost use Rattle.index_write.specs.Lists.{value_of, shown_values, entries_of, with_one, AreOrdered};
 
@@ -10,7 +11,8 @@ use std::collections::btree_map::Entry;
 /// Returns the place of a new value: after the last one whose priority isn't greater.
 fn place_for(list: &[StoredValue], priority: u32) -> usize
     ensures within { result ≤ length list.now }
-    ensures place { (v : ℕ × List ℕ) → v.0 ≡ priority → insert (shown_values list.now) result v ≡ place (shown_values list.now) v }
+    ensures place { (v : ℕ × List ℕ) → v.0 ≡ priority
+        → insert (shown_values list.now) result v ≡ place (shown_values list.now) v }
 {
     let mut at = list.len();
     while at > 0 && list[at - 1].priority > priority {
@@ -21,7 +23,8 @@ fn place_for(list: &[StoredValue], priority: u32) -> usize
 
 /// Inserts a value at its place.
 fn add_to(list: &mut Vec<StoredValue>, value: StoredValue) -> Result<(), AllocError>
-    ensures ok { OnOk result (shown_values list.new.items ≡ place (shown_values list.old.items) (value_of value)) }
+    ensures ok { OnOk result
+        (shown_values list.new.items ≡ place (shown_values list.old.items) (value_of value)) }
     ensures err { OnErr result (list.new.items ≡ list.old.items) }
 {
     let at = place_for(list, value.priority);
@@ -45,7 +48,9 @@ pub(crate) fn add_value(
     key: String,
     value: StoredValue,
 ) -> Result<(), AllocError>
-    ensures ok { OnOk result (entries_of lists.new.entries ≡ with_one (entries_of lists.old.entries) (string_bytes key) (value_of value)) }
+    ensures ok { OnOk result
+        (entries_of lists.new.entries
+        ≡ with_one (entries_of lists.old.entries) (string_bytes key) (value_of value)) }
     ensures err { OnErr result (entries_of lists.new.entries ≡ entries_of lists.old.entries) }
     ensures ordered { AreOrdered lists.old.entries }
 {

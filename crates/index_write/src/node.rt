@@ -1,8 +1,10 @@
-ghost use Rattle.std.specs.Prelude.{◌≡◌, ◌≤◌, ◌<◌, ◌+◌, ◌^◌, [], ◌∷◌, ◌++◌, length, take, drop, map, OnOk, IfOk, IfNone, IfSome};
+ghost use Rattle.std.specs.Prelude.{◌≡◌, ◌≤◌, ◌<◌, ◌+◌, ◌^◌, [], ◌∷◌, ◌++◌, length, take, drop};
+ghost use Rattle.std.specs.Prelude.{map, OnOk, IfOk, IfNone, IfSome};
 ghost use Rattle.index_format.specs.Tree.{common, common_prefix, ending, groups, tree, Rises};
 ghost use Rattle.index_write.specs.Lists.{shown_values};
 ghost use Rattle.index_write.specs.Parts.{span_of, parts_of};
-ghost use Rattle.index_write.specs.Groups.{entries_shown, at_depth, group_of, groups_of, ended, leading, AllGoOn, part_of, below, part_for, root_part};
+ghost use Rattle.index_write.specs.Groups.{entries_shown, at_depth, group_of, groups_of, ended};
+ghost use Rattle.index_write.specs.Groups.{leading, AllGoOn, part_of, below, part_for, root_part};
 
 use crate::key_map::StoredValue;
 use std::alloc::{AllocError, Global};
@@ -121,7 +123,9 @@ fn run_length(entries: &[KeyEntry], depth: usize, byte: u8) -> usize
 fn first_group<'e, 'a>(entries: &'e [KeyEntry<'a>], depth: usize) -> Option<(Group<'e, 'a>, usize)>
     requires { AllGoOn (at_depth depth entries.now) }
     ensures none { IfNone result (entries.now ≡ []) }
-    ensures some { IfSome result (λ p. groups (at_depth depth entries.now) ≡ group_of p.0 ∷ groups (drop p.1 (at_depth depth entries.now))) }
+    ensures some { IfSome result
+        (λ p. groups (at_depth depth entries.now)
+        ≡ group_of p.0 ∷ groups (drop p.1 (at_depth depth entries.now))) }
     ensures more { IfSome result (λ p. 0 < p.1) }
     ensures within { IfSome result (λ p. p.1 ≤ length entries.now) }
 {
@@ -143,7 +147,9 @@ fn push_groups<'e, 'a>(
     pending: &mut Vec<Group<'e, 'a>>,
 ) -> Result<(), AllocError>
     requires { Rises (at_depth depth entries.now) }
-    ensures { OnOk result (groups_of pending.new.items ≡ groups_of pending.old.items ++ groups (at_depth depth entries.now)) }
+    ensures { OnOk result
+        (groups_of pending.new.items
+        ≡ groups_of pending.old.items ++ groups (at_depth depth entries.now)) }
 {
     let mut from = ended(entries, depth);
     while let Some((group, count)) = first_group(&entries[from..], depth) {
@@ -178,7 +184,9 @@ fn node_of<'e, 'a>(
 ) -> Result<TreeNode<'a>, AllocError>
     requires { Rises (group_of group.now).1 }
     ensures node { IfOk result (λ n. part_of n ≡ part_for group.now.byte (group_of group.now).1) }
-    ensures pending { OnOk result (groups_of pending.new.items ≡ groups_of pending.old.items ++ groups (below (group_of group.now).1)) }
+    ensures pending { OnOk result
+        (groups_of pending.new.items
+        ≡ groups_of pending.old.items ++ groups (below (group_of group.now).1)) }
 {
     let prefix = common_prefix(group.entries, group.depth);
     let depth = group.depth + prefix.len();
@@ -199,7 +207,9 @@ fn root_of<'e, 'a>(
 ) -> Result<TreeNode<'a>, AllocError>
     requires { Rises (entries_shown entries.now) }
     ensures node { IfOk result (λ n. part_of n ≡ root_part (entries_shown entries.now)) }
-    ensures pending { OnOk result (groups_of pending.new.items ≡ groups_of pending.old.items ++ groups (entries_shown entries.now)) }
+    ensures pending { OnOk result
+        (groups_of pending.new.items
+        ≡ groups_of pending.old.items ++ groups (entries_shown entries.now)) }
 {
     let start = pending.len();
     push_groups(entries, 0, pending)?;

@@ -1,5 +1,7 @@
 -- The exports of a kernel, by the tables that its build writes.
-use Rattle.std.specs.Prelude.{ℕ, ◌≡◌, not, false, List, [], ◌∷◌, ◌++◌, AllPairs, nat_eq, map, filter, drop, codes, Option, Some, None, option_map, Result, if◌then◌else◌}
+use Rattle.std.specs.Prelude.{ℕ, ◌≡◌, not, false, List, [], ◌∷◌, ◌++◌, AllPairs, nat_eq, map}
+use Rattle.std.specs.Prelude.{filter, drop, codes, Option, Some, None, option_map, Result}
+use Rattle.std.specs.Prelude.{if◌then◌else◌}
 use Rattle.std.specs.List.{filter_map, list_any, starts_with}
 use Rattle.std.specs.Option.{option_or}
 use Rattle.std.specs.Str.{bytes_eq}
@@ -42,7 +44,8 @@ with_addresses symbols exports = map (with_its_address symbols) exports
 -- The name that an entry is for: N if its own name is `__ksymtab_N`. The kernel's
 -- include/linux/export.h.
 abbrev pub exported_name : List ℕ → Option (List ℕ)
-exported_name name = if starts_with nat_eq name (codes "__ksymtab_") then Some (drop 10 name) else None
+exported_name name =
+    if starts_with nat_eq name (codes "__ksymtab_") then Some (drop 10 name) else None
 
 -- The export of an entry: it has no version, is for all modules, and is in no namespace.
 abbrev pub export_of_entry : List ℕ → KernelExport
@@ -54,7 +57,8 @@ export_of_symbol s = option_map export_of_entry (exported_name s.name)
 
 -- The export that a line of Module.symvers states.
 abbrev pub stated_export : SymversExport → KernelExport
-stated_export l = record { name = l.name; crc = Some l.crc; address = None; gpl = l.gpl; space = l.space }
+stated_export l =
+    record { name = l.name; crc = Some l.crc; address = None; gpl = l.gpl; space = l.space }
 
 -- The export of a line whose owner is the kernel itself: the line has `vmlinux` as its owner.
 abbrev pub export_of_line : SymversExport → Option KernelExport
@@ -64,12 +68,14 @@ export_of_line l = if bytes_eq l.owner (codes "vmlinux") then Some (stated_expor
 unfoldable pub exports_of_map : List ℕ → Result (List KernelExport) ℕ
 exports_of_map bytes =
     let symbols = stated map_line bytes in
-    unless_fault (refused_line map_line bytes) (with_addresses symbols (first_of_each (filter_map export_of_symbol symbols)))
+    unless_fault (refused_line map_line bytes)
+    (with_addresses symbols (first_of_each (filter_map export_of_symbol symbols)))
 
 -- The exports that a Module.symvers states, or the number of its first line that is refused.
 unfoldable pub exports_of_symvers : List ℕ → Result (List KernelExport) ℕ
 exports_of_symvers bytes =
-    unless_fault (refused_line symvers_line bytes) (first_of_each (filter_map export_of_line (stated symvers_line bytes)))
+    unless_fault (refused_line symvers_line bytes)
+    (first_of_each (filter_map export_of_line (stated symvers_line bytes)))
 
 -- Exports with the addresses that a System.map states, or the number of its first line that is
 -- refused.

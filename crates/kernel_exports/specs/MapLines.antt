@@ -1,5 +1,6 @@
 -- The lines of a System.map, which the kernel's build writes with nm(1): `ADDRESS LETTER NAME`.
-use Rattle.std.specs.Prelude.{ℕ, ◌==◌, ◌&&◌, Bool, List, length, map, find, slice_index, Option, Some, None, option_map, if◌then◌else◌}
+use Rattle.std.specs.Prelude.{ℕ, ◌==◌, ◌&&◌, Bool, List, length, map, find, slice_index, Option}
+use Rattle.std.specs.Prelude.{Some, None, option_map, if◌then◌else◌}
 use Rattle.std.specs.List.{before_first, after_first}
 use Rattle.std.specs.Option.{option_or}
 use Rattle.std.specs.Char.{is_ascii_uppercase}
@@ -27,7 +28,9 @@ map_line text =
     let kind = front (rest text) in
     let name = rest (rest text) in
     if length kind == 1 && is_graphic kind && is_graphic name
-    then option_map (λ address. record { address = address; letter = slice_index kind 0; name = name }) (hexadecimal (front text))
+    then option_map
+    (λ address. record { address = address; letter = slice_index kind 0; name = name })
+    (hexadecimal (front text))
     else None
 
 -- Whether the symbol is global: its letter is A to Z. nm(1).
@@ -37,7 +40,8 @@ is_global s = is_ascii_uppercase s.letter
 -- The symbol of a name: the first global one that has it, and otherwise the first that has it.
 abbrev pub symbol_of : List MapSymbol → List ℕ → Option MapSymbol
 symbol_of symbols name =
-    option_or (find (λ s. is_global s && bytes_eq s.name name) symbols) (find (λ s. bytes_eq s.name name) symbols)
+    option_or (find (λ s. is_global s && bytes_eq s.name name) symbols)
+    (find (λ s. bytes_eq s.name name) symbols)
 
 -- The address of a name, from its symbol.
 abbrev pub address_of : List MapSymbol → List ℕ → Option ℕ

@@ -1,7 +1,8 @@
 -- The lines of a Module.symvers: fields between tabs. The first five are the version, the symbol,
 -- its exporter, the kind of export, and the namespace. The kernel's
 -- Documentation/kbuild/modules.rst, "Symbols From the Kernel".
-use Rattle.std.specs.Prelude.{ℕ, ◌==◌, ◌&&◌, Bool, List, [], nat_eq, drop, codes, slice_get, Option, None, unwrap_or, option_map, if◌then◌else◌}
+use Rattle.std.specs.Prelude.{ℕ, ◌==◌, ◌&&◌, Bool, List, [], nat_eq, drop, codes, slice_get, Option}
+use Rattle.std.specs.Prelude.{None, unwrap_or, option_map, if◌then◌else◌}
 use Rattle.std.specs.List.{slice_split, starts_with}
 use Rattle.std.specs.Str.{bytes_eq}
 use Rattle.km_names.specs.Ascii.{is_graphic, hexadecimal}

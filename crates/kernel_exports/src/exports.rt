@@ -1,8 +1,12 @@
 // The exports of a kernel, each name once, as it is first exported.
-ghost use Rattle.std.specs.Prelude.{◌≡◌, ◌+◌, ◌-◌, ◌<◌, ◌≤◌, ◌^◌, length, OnOk, IfOk, map, option_copied};
+ghost use Rattle.std.specs.Prelude.{◌≡◌, ◌+◌, ◌-◌, ◌<◌, ◌≤◌, ◌^◌, length, OnOk, IfOk, map};
+ghost use Rattle.std.specs.Prelude.{option_copied};
 ghost use Rattle.std.specs.List.{filter_map};
 ghost use Rattle.km_names.specs.Limit.{file_limit};
-ghost use Rattle.kernel_exports.specs.KernelTable.{IsTable, AreFirst, first_of_each, with_export, with_its_address, with_addresses, exported_name, export_of_entry, stated_export, export_of_symbol, export_of_line};
+ghost use Rattle.kernel_exports.specs.KernelTable.{IsTable, AreFirst, first_of_each, with_export};
+ghost use Rattle.kernel_exports.specs.KernelTable.{with_its_address, with_addresses, exported_name};
+ghost use Rattle.kernel_exports.specs.KernelTable.{export_of_entry, stated_export};
+ghost use Rattle.kernel_exports.specs.KernelTable.{export_of_symbol, export_of_line};
 
 use crate::map::SystemMap;
 use crate::symvers::SymversLine;
@@ -20,7 +24,8 @@ fn add_first<'a>(
 ) -> Result<(), AllocError>
     requires name { name.now ≡ export.name }
     requires few { names.old.count < 2 ^ 32 - 1 }
-    ensures list { OnOk result (AreFirst names.old list.old → list.new ≡ with_export list.old export) }
+    ensures list { OnOk result
+        (AreFirst names.old list.old → list.new ≡ with_export list.old export) }
     ensures first { OnOk result (AreFirst names.old list.old → AreFirst names.new list.new) }
     ensures count { OnOk result (names.new.count ≤ names.old.count + 1) }
 {
@@ -44,7 +49,8 @@ fn exported_name(name: &[u8]) -> Option<&[u8]>
 
 /// Makes the export of an entry of this name, at the address that symbols state for it.
 fn entry_export(alloc: Global, name: &[u8], symbols: &SystemMap) -> Result<KernelExport, AllocError>
-    ensures { IfOk result (λ export. export ≡ with_its_address symbols.now (export_of_entry name.now)) }
+    ensures { IfOk result
+        (λ export. export ≡ with_its_address symbols.now (export_of_entry name.now)) }
 {
     Ok(KernelExport {
         name: Name::from_slice(alloc, name)?,
@@ -61,7 +67,10 @@ pub(crate) fn exports_of_symbols(
     symbols: &SystemMap,
 ) -> Result<KernelExports, AllocError>
     requires { length symbols.now ≤ file_limit }
-    ensures list { IfOk result (λ list. list ≡ with_addresses symbols.now (first_of_each (filter_map export_of_symbol symbols.now))) }
+    ensures list { IfOk result
+        (λ list. list
+        ≡ with_addresses symbols.now
+        (first_of_each (filter_map export_of_symbol symbols.now))) }
     ensures table { IfOk result (λ list. IsTable list) }
 {
     let mut names = NameTable::new(alloc);
@@ -99,7 +108,8 @@ pub(crate) fn exports_of_lines(
     lines: &[SymversLine],
 ) -> Result<KernelExports, AllocError>
     requires { length lines.now ≤ file_limit }
-    ensures list { IfOk result (λ list. list ≡ first_of_each (filter_map export_of_line lines.now)) }
+    ensures list { IfOk result
+        (λ list. list ≡ first_of_each (filter_map export_of_line lines.now)) }
     ensures table { IfOk result (λ list. IsTable list) }
 {
     let mut names = NameTable::new(alloc);

@@ -1,8 +1,10 @@
 // What a kernel exports.
-ghost use Rattle.std.specs.Prelude.{◌≡◌, ◌≤◌, ◌⊎◌, [], true, false, length, option_map, IfOk, IfErr, Ok, Some, OnOk, OnErr};
+ghost use Rattle.std.specs.Prelude.{◌≡◌, ◌≤◌, ◌⊎◌, [], true, false, length, option_map, IfOk};
+ghost use Rattle.std.specs.Prelude.{IfErr, Ok, Some, OnOk, OnErr};
 ghost use Rattle.std.specs.Result.{result_err};
 ghost use Rattle.km_names.specs.Limit.{file_limit};
-ghost use Rattle.kernel_exports.specs.KernelTable.{IsTable, exports_of_map, exports_of_symvers, exports_with_addresses, with_addresses};
+ghost use Rattle.kernel_exports.specs.KernelTable.{IsTable, exports_of_map, exports_of_symvers};
+ghost use Rattle.kernel_exports.specs.KernelTable.{exports_with_addresses, with_addresses};
 
 use crate::KernelFault;
 use crate::exports::{exports_of_lines, exports_of_symbols, with_all_addresses};
@@ -66,7 +68,8 @@ impl Kernel {
         ensures known { IfOk result (λ kernel. kernel.known ≡ true) }
         ensures exports { IfOk result (λ kernel. exports_of_map bytes.now ≡ Ok kernel.exports) }
         ensures err { IfErr result (λ fault. (fault ≡ KernelFault.Memory)
-            ⊎ (option_map KernelFault.BadKernelLine (result_err (exports_of_map bytes.now)) ≡ Some fault)) }
+            ⊎ (option_map KernelFault.BadKernelLine (result_err (exports_of_map bytes.now))
+            ≡ Some fault)) }
     {
         let map = SystemMap::read(alloc, bytes)?;
         let exports = exports_of_symbols(alloc, &map)?;
@@ -89,7 +92,8 @@ impl Kernel {
         ensures known { IfOk result (λ kernel. kernel.known ≡ true) }
         ensures exports { IfOk result (λ kernel. exports_of_symvers bytes.now ≡ Ok kernel.exports) }
         ensures err { IfErr result (λ fault. (fault ≡ KernelFault.Memory)
-            ⊎ (option_map KernelFault.BadKernelLine (result_err (exports_of_symvers bytes.now)) ≡ Some fault)) }
+            ⊎ (option_map KernelFault.BadKernelLine (result_err (exports_of_symvers bytes.now))
+            ≡ Some fault)) }
     {
         let lines: Vec<SymversLine> = read_lines(alloc, bytes)?;
         let exports = exports_of_lines(alloc, &lines)?;
@@ -109,7 +113,8 @@ impl Kernel {
     pub fn add_addresses(&mut self, bytes: &[u8]) -> Result<(), KernelFault>
         requires { length bytes.now ≤ file_limit }
         ensures known { self.new.known ≡ self.old.known }
-        ensures exports { OnOk result (exports_with_addresses bytes.now self.old.exports ≡ Ok self.new.exports) }
+        ensures exports { OnOk result
+            (exports_with_addresses bytes.now self.old.exports ≡ Ok self.new.exports) }
         ensures kept { OnErr result (self.new ≡ self.old) }
         ensures err { IfErr result (λ fault. (fault ≡ KernelFault.Memory)
             ⊎ (option_map KernelFault.BadKernelLine

@@ -1,5 +1,6 @@
 // The lines of a table of a kernel.
-ghost use Rattle.std.specs.Prelude.{◌≡◌, ◌≤◌, ◌⊎◌, ℕ, List, Option, Some, None, option_map, length, IfOk, IfErr, OnOk};
+ghost use Rattle.std.specs.Prelude.{◌≡◌, ◌≤◌, ◌⊎◌, ℕ, List, Option, Some, None, option_map, length};
+ghost use Rattle.std.specs.Prelude.{IfOk, IfErr, OnOk};
 ghost use Rattle.km_names.specs.Limit.{file_limit};
 ghost use Rattle.km_names.specs.Space.{is_space};
 ghost use Rattle.kernel_exports.specs.TableLines.{is_blank, refused_line, stated};

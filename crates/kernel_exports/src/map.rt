@@ -1,9 +1,11 @@
 // The symbols of a System.map and their addresses.
-ghost use Rattle.std.specs.Prelude.{◌≡◌, ◌≤◌, ◌⊎◌, length, map, option_copied, option_and_then, option_map, slice_get, None, Some, IfOk, IfErr, OnOk};
+ghost use Rattle.std.specs.Prelude.{◌≡◌, ◌≤◌, ◌⊎◌, length, map, option_copied, option_and_then};
+ghost use Rattle.std.specs.Prelude.{option_map, slice_get, None, Some, IfOk, IfErr, OnOk};
 ghost use Rattle.km_names.specs.Limit.{file_limit};
 ghost use Rattle.name_table.specs.NameTable.{IsTableOf};
 ghost use Rattle.kernel_exports.specs.TableLines.{refused_line, stated};
-ghost use Rattle.kernel_exports.specs.MapLines.{map_line, global_name, any_name, symbol_of, address_of};
+ghost use Rattle.kernel_exports.specs.MapLines.{map_line, global_name, any_name, symbol_of};
+ghost use Rattle.kernel_exports.specs.MapLines.{address_of};
 
 use crate::KernelFault;
 use crate::lines::{TableLine, read_lines};

@@ -22,7 +22,8 @@ impl<'a> Model for SymversLine<'a> {
 
     ghost Value = { SymversExport };
 
-    ghost view = { λ l. record { crc = l.crc; name = l.name.now; owner = l.owner.now; gpl = l.gpl; space = l.space.now } };
+    ghost view = { λ l. record
+        { crc = l.crc; name = l.name.now; owner = l.owner.now; gpl = l.gpl; space = l.space.now } };
 }
 
 /// Reads the version that a field states.

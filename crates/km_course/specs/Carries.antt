@@ -1,17 +1,22 @@
 -- What the top call guarantees of its status, for every kind of objects that it gets.
-use Rattle.std.specs.Prelude.{◌≡◌, ◌⊎◌, ℕ, ◌≤◌, ◌==◌, true, false, if◌then◌else◌, List, [], ◌∷◌, ◌++◌, length, Option, Some, None, IfSome, IsSomeAnd, Result, Ok, Err, ⊤}
+use Rattle.std.specs.Prelude.{◌≡◌, ◌⊎◌, ℕ, ◌≤◌, ◌==◌, true, false, if◌then◌else◌, List, [], ◌∷◌}
+use Rattle.std.specs.Prelude.{◌++◌, length, Option, Some, None, IfSome, IsSomeAnd, Result, Ok, Err}
+use Rattle.std.specs.Prelude.{⊤}
 use Rattle.km_outside.specs.Counts.{Rose}
 use Rattle.km_outside.specs.OutSeen.{OutSeen, WriteAnswers}
 use Rattle.km_outside.specs.declared.out.OutFailed.{OutFailed}
-use Rattle.km_course.specs.Lines.{end_line, end_status, refusal_text, file_fault, output_fault, out_of_memory}
+use Rattle.km_course.specs.Lines.{end_line, end_status, refusal_text, file_fault, output_fault}
+use Rattle.km_course.specs.Lines.{out_of_memory}
 use Rattle.km_course.specs.Course.{Act, Outcome, Run, Stage}
 use Rattle.km_course.specs.Course.Act.{read, list, say, warn, put}
 use Rattle.km_course.specs.Course.Outcome.{value, end}
-use Rattle.km_course.specs.World.{World, Shown, Tells, Keeps, NoFault, FitsRooms, act_begun, done, begun}
+use Rattle.km_course.specs.World.{World, Shown, Tells, Keeps, NoFault, FitsRooms, act_begun, done}
+use Rattle.km_course.specs.World.{begun}
 use Rattle.km_course.specs.Follows.{next_act, PassesRoom, Free, EndCounts}
 use Rattle.km_course.specs.declared.end.End.TheVariants.{Refused}
 use Rattle.km_course.specs.declared.stop.Stop.{Stop}
-use Rattle.km_course.specs.declared.stop.Stop.TheVariants.{Ended, FileFault, OutputFault, WarningFault, Memory}
+use Rattle.km_course.specs.declared.stop.Stop.TheVariants.{Ended, FileFault, OutputFault}
+use Rattle.km_course.specs.declared.stop.Stop.TheVariants.{WarningFault, Memory}
 
 -- The status of a course with this outcome: 0 if it reached its end.
 abbrev pub outcome_status : Outcome ⊤ → ℕ
@@ -67,20 +72,24 @@ failed_line (Some act) = line_bytes (stop_line (failed_act act))
 -- output with a known capacity fails only past it.
 abbrev pub ActFailed : World → World → ℕ → Shown → Option Act → Type 0
 ActFailed old new count shown None = ⊥
-ActFailed old new count shown (Some (say bytes)) = Rose old.out.faults new.out.faults × PassesRoom old.out.room shown.out bytes
-ActFailed old new count shown (Some (warn bytes)) = Rose old.err.faults new.err.faults × PassesRoom old.err.room shown.err bytes
+ActFailed old new count shown (Some (say bytes)) =
+    Rose old.out.faults new.out.faults × PassesRoom old.out.room shown.out bytes
+ActFailed old new count shown (Some (warn bytes)) =
+    Rose old.err.faults new.err.faults × PassesRoom old.err.room shown.err bytes
 ActFailed old new count shown (Some call) =
     (count ≡ 1) × Rose old.files.counts.faults new.files.counts.faults × (old.files.sure ≡ false)
 
 -- A first part of the acts was done, and the next one begun. Then a line was written to err: all of
 -- it, or a first part if the count of err rose. Nothing else was done.
-pub record CutShort (acts : List Act) (shown : Shown) (old new : World) (text : Option Act → List ℕ) (cause : ℕ → Shown → Option Act → Type 0) : Type 0 where
+pub record CutShort (acts : List Act) (shown : Shown) (old new : World) (text : Option Act → List ℕ)
+    (cause : ℕ → Shown → Option Act → Type 0) : Type 0 where
   pub before : List Act
   pub rest : List Act
   pub count : ℕ
   pub written : ℕ
   pub split : acts ≡ before ++ rest
-  pub tells : Tells new (act_begun written (warn (text (next_act rest))) (begun count rest (done before shown)))
+  pub tells : Tells new
+      (act_begun written (warn (text (next_act rest))) (begun count rest (done before shown)))
   pub whole : (length (text (next_act rest)) ≤ written) ⊎ Rose old.err.faults new.err.faults
   pub because : cause count (done before shown) (next_act rest)
 
@@ -96,7 +105,8 @@ pub record MayCome (course : Stage ⊤) (old new : World) (status : ℕ) : Type 
   pub possible : course.possible outcome
   pub status_is : status ≡ outcome_status outcome
   pub counts : OutcomeCounts old new outcome
-  pub line_is : IfSome old.err.told (λ err. (warned : List ℕ) × (new.err.told ≡ Some ((err ++ warned) ++ outcome_line outcome)))
+  pub line_is : IfSome old.err.told
+      (λ err. (warned : List ℕ) × (new.err.told ≡ Some ((err ++ warned) ++ outcome_line outcome)))
 
 -- The course over the known files reached its outcome. It has this status, for the cause that its
 -- count shows. All its acts and the line of its end were done, and nothing else.
@@ -119,13 +129,18 @@ pub record Carries (course : Stage ⊤) (old new : World) (status : ℕ) : Type 
   -- with known contents it is the course's own.
   pub no_fault : status ≤ 2 → NoFault old new
   pub may_come : status ≤ 2 → MayCome course old new status
-  pub ended : status ≤ 2 → (shown : Shown) → Tells old shown → HasEnded (course.run shown.files) shown old new status
+  pub ended : status ≤ 2 → (shown : Shown) → Tells old shown
+      → HasEnded (course.run shown.files) shown old new status
   -- Status 3: a count of faults rose, and the acts were cut short if one failed.
-  pub fault : status ≡ 3 → Rose old.files.counts.faults new.files.counts.faults ⊎ Rose old.out.faults new.out.faults ⊎ Rose old.err.faults new.err.faults
+  pub fault : status ≡ 3
+      → Rose old.files.counts.faults new.files.counts.faults
+      ⊎ Rose old.out.faults new.out.faults
+      ⊎ Rose old.err.faults new.err.faults
   pub faulted : status ≡ 3 → (shown : Shown) → Tells old shown →
       CutShort (whole_acts (course.run shown.files)) shown old new failed_line (ActFailed old new)
   -- Status 4: neither the files nor the output failed, and the acts were cut short anywhere.
-  pub memory : status ≡ 4 → (new.files.counts.faults ≡ old.files.counts.faults) × (new.out.faults ≡ old.out.faults)
+  pub memory : status ≡ 4
+      → (new.files.counts.faults ≡ old.files.counts.faults) × (new.out.faults ≡ old.out.faults)
   pub wanting : status ≡ 4 → (shown : Shown) → Tells old shown →
       CutShort (course.run shown.files).acts shown old new (λ _. out_of_memory) Free
   -- Over files that are sure, and outputs with room for the whole course: the course's status, or
@@ -159,7 +174,8 @@ closed_status stop (Err _) = unwritten_status stop
 -- The status of a stop, and what is written to err for it.
 abbrev pub Closes : Stop → OutSeen → OutSeen → ℕ → Type 0
 Closes stop old new status =
-    (answer : Result ⊤ OutFailed) × WritesLine (stop_line stop) old new answer × (status ≡ closed_status stop answer)
+    (answer : Result ⊤ OutFailed) × WritesLine (stop_line stop) old new answer
+    × (status ≡ closed_status stop answer)
 
 -- The stop is a refusal, with a text of the program's own.
 abbrev pub IsRefused : Stop → Type 0
@@ -175,4 +191,5 @@ SaysOf _ text = ⊤
 -- text of a refusal, and then the command stops for that.
 abbrev pub Concludes : Result ⊤ Stop → OutSeen → OutSeen → ℕ → Type 0
 Concludes (Ok _) old new status = (new ≡ old) × (status ≡ 0)
-Concludes (Err stop) old new status = Closes stop old new status ⊎ (IsRefused stop × Closes Memory old new status)
+Concludes (Err stop) old new status =
+    Closes stop old new status ⊎ (IsRefused stop × Closes Memory old new status)

@@ -1,5 +1,6 @@
 -- What the program is to do: acts on the files and outputs, in order, and how they end.
-use Rattle.std.specs.Prelude.{◌≡◌, ◌⊎◌, ℕ, ◌≤◌, nat_lt, Bool, true, false, All, if◌then◌else◌, List, [], ◌∷◌, ◌++◌, length, Option, Some, None, ⊤}
+use Rattle.std.specs.Prelude.{◌≡◌, ◌⊎◌, ℕ, ◌≤◌, nat_lt, Bool, true, false, All, if◌then◌else◌, List}
+use Rattle.std.specs.Prelude.{[], ◌∷◌, ◌++◌, length, Option, Some, None, ⊤}
 use Rattle.std.specs.List.Sorted.{IsStrictlySortedBy}
 use Rattle.std.specs.FinMap as map
 use Rattle.km_outside.specs.Contents.{Contents, by_bytes, listed, is_path, is_conf_name}
@@ -48,14 +49,19 @@ after (act ∷ acts) files = after acts (file_done act files)
 -- first acts leave.
 unfoldable pub continued : {X Y : Type 0} → List Act → Outcome X → (X → Stage Y) → Contents → Run Y
 continued acts (value x) next files =
-    record { acts = acts ++ ((next x).run (after acts files)).acts; outcome = ((next x).run (after acts files)).outcome }
+    record {
+      acts = acts ++ ((next x).run (after acts files)).acts;
+      outcome = ((next x).run (after acts files)).outcome;
+    }
 continued acts (end e) next files = record { acts = acts; outcome = end e }
 
 -- The outcomes possible after these: an outcome of the stage that a value makes, or the end that
 -- came first.
-unfoldable pub possible_after : {X Y : Type 0} → (Outcome X → Type 0) → (X → Stage Y) → Outcome Y → Type 0
+unfoldable pub possible_after : {X Y : Type 0} → (Outcome X → Type 0) → (X → Stage Y) → Outcome Y
+    → Type 0
 possible_after {X} possible next outcome =
-    ((x : X) × possible (value x) × (next x).possible outcome) ⊎ ((e : End) × possible (end e) × (outcome ≡ end e))
+    ((x : X) × possible (value x) × (next x).possible outcome)
+    ⊎ ((e : End) × possible (end e) × (outcome ≡ end e))
 
 infixl 10 ◌>>=◌
 -- A stage, and then the one that is made of its value.
@@ -73,7 +79,8 @@ given outcome = record {
 }
 
 -- This act, and the outcome that the files give it, which is one of the possible ones.
-unfoldable pub act_with : {X : Type 0} → Act → (Contents → Outcome X) → (Outcome X → Type 0) → Stage X
+unfoldable pub act_with : {X : Type 0} → Act → (Contents → Outcome X) → (Outcome X → Type 0)
+    → Stage X
 act_with act outcome possible = record {
   run = λ files. record { acts = act ∷ []; outcome = outcome files };
   possible = possible;
@@ -101,7 +108,8 @@ when◌then◌else◌ false first second = second
 -- nothing is.
 abbrev pub read_outcome : Outcome (List ℕ) → List ℕ → Option (List ℕ) → Outcome (List ℕ)
 read_outcome absent path None = absent
-read_outcome absent path (Some bytes) = if nat_lt file_limit (length bytes) then end (TooLarge path) else value bytes
+read_outcome absent path (Some bytes) =
+    if nat_lt file_limit (length bytes) then end (TooLarge path) else value bytes
 
 -- The bytes of the file at the path, and this outcome if nothing is there.
 abbrev pub reads_or : Outcome (List ℕ) → List ℕ → Stage (List ℕ)
@@ -120,16 +128,21 @@ reads_any path = reads_or (value []) path
 
 -- The outcome of listing the folder if these paths lie below it and these names are listed.
 -- `absent` is the outcome if nothing lies below it.
-abbrev pub list_outcome : Outcome (List (List ℕ)) → List ℕ → List (List ℕ) → List (List ℕ) → Outcome (List (List ℕ))
+abbrev pub list_outcome : Outcome (List (List ℕ)) → List ℕ → List (List ℕ) → List (List ℕ)
+    → Outcome (List (List ℕ))
 list_outcome absent folder [] names = absent
-list_outcome absent folder (_ ∷ _) names = if nat_lt list_limit (length names) then end (TooLarge folder) else value names
+list_outcome absent folder (_ ∷ _) names =
+    if nat_lt list_limit (length names) then end (TooLarge folder) else value names
 
 -- The names below the folder that pass the test, and this outcome if nothing lies below it.
 abbrev pub lists_or : Outcome (List (List ℕ)) → (List ℕ → Bool) → List ℕ → Stage (List (List ℕ))
 lists_or absent fits folder =
-    act_with (list folder) (λ files. list_outcome absent folder (listed is_path folder files) (listed fits folder files))
+    act_with (list folder)
+    (λ files. list_outcome absent folder (listed is_path folder files)
+    (listed fits folder files))
     (λ outcome. (outcome ≡ absent) ⊎ (outcome ≡ end (TooLarge folder))
-    ⊎ ((names : List (List ℕ)) × IsStrictlySortedBy by_bytes names × All (λ name. fits name ≡ true) names
+    ⊎ ((names : List (List ℕ)) × IsStrictlySortedBy by_bytes names
+    × All (λ name. fits name ≡ true) names
     × (length names ≤ list_limit) × (outcome ≡ value names)))
 
 -- The names of the configuration files in the folder, which is needed.

@@ -1,5 +1,6 @@
 -- What it means that a call followed a stage: the contract of every function above the traits.
-use Rattle.std.specs.Prelude.{◌≡◌, ℕ, ◌+◌, ◌<◌, false, List, [], ◌∷◌, ◌++◌, length, Option, Some, None, Result, Ok, Err, IfSome, ⊤}
+use Rattle.std.specs.Prelude.{◌≡◌, ℕ, ◌+◌, ◌<◌, false, List, [], ◌∷◌, ◌++◌, length, Option, Some}
+use Rattle.std.specs.Prelude.{None, Result, Ok, Err, IfSome, ⊤}
 use Rattle.km_outside.specs.Counts.{Rose}
 use Rattle.km_outside.specs.declared.files.FileAnswer.{FileAnswer}
 use Rattle.km_outside.specs.declared.files.FileAnswer.TheVariants as answers
@@ -10,7 +11,8 @@ use Rattle.km_course.specs.World.{World, Shown, Tells, Keeps, NoFault, done, beg
 use Rattle.km_course.specs.declared.end.End.{End}
 use Rattle.km_course.specs.declared.end.End.TheVariants.{NoFile, TooLarge}
 use Rattle.km_course.specs.declared.stop.Stop.{Stop}
-use Rattle.km_course.specs.declared.stop.Stop.TheVariants.{Ended, FileFault, OutputFault, WarningFault, Memory}
+use Rattle.km_course.specs.declared.stop.Stop.TheVariants.{Ended, FileFault, OutputFault}
+use Rattle.km_course.specs.declared.stop.Stop.TheVariants.{WarningFault, Memory}
 
 -- The first of the acts, if there is one.
 abbrev pub next_act : List Act → Option Act
@@ -20,7 +22,8 @@ next_act (act ∷ acts) = Some act
 -- A first part of the acts was done, the next one was begun, and nothing else was done. The cause
 -- holds of three things: how much of the next act was done, what was seen before it, and the act
 -- itself.
-pub record StopsAt (acts : List Act) (shown : Shown) (new : World) (cause : ℕ → Shown → Option Act → Type 0) : Type 0 where
+pub record StopsAt (acts : List Act) (shown : Shown) (new : World)
+    (cause : ℕ → Shown → Option Act → Type 0) : Type 0 where
   pub before : List Act
   pub rest : List Act
   pub count : ℕ
@@ -43,7 +46,8 @@ PassesRoom room written bytes = IfSome room (λ n. n < length written + length b
 -- Why a call on files failed: it is the next act, it was made, and the files aren't sure.
 abbrev pub CallFailed : List ℕ → World → ℕ → Shown → Option Act → Type 0
 CallFailed path new count shown None = ⊥
-CallFailed path new count shown (Some act) = IsCallAt path act × (count ≡ 1) × (new.files.sure ≡ false)
+CallFailed path new count shown (Some act) =
+    IsCallAt path act × (count ≡ 1) × (new.files.sure ≡ false)
 
 -- Why a write to the output failed: it is the next act, and an output with a known capacity has no
 -- room for it.
@@ -84,11 +88,14 @@ EndCounts old new _ = ⊤
 abbrev pub StopCounts : World → World → Stop → Type 0
 StopCounts old new (Ended e) = NoFault old new × EndCounts old new e
 StopCounts old new (FileFault path) =
-    Rose old.files.counts.faults new.files.counts.faults × (new.out.faults ≡ old.out.faults) × (new.err.faults ≡ old.err.faults)
+    Rose old.files.counts.faults new.files.counts.faults × (new.out.faults ≡ old.out.faults)
+    × (new.err.faults ≡ old.err.faults)
 StopCounts old new OutputFault =
-    Rose old.out.faults new.out.faults × (new.files.counts.faults ≡ old.files.counts.faults) × (new.err.faults ≡ old.err.faults)
+    Rose old.out.faults new.out.faults × (new.files.counts.faults ≡ old.files.counts.faults)
+    × (new.err.faults ≡ old.err.faults)
 StopCounts old new WarningFault =
-    Rose old.err.faults new.err.faults × (new.files.counts.faults ≡ old.files.counts.faults) × (new.out.faults ≡ old.out.faults)
+    Rose old.err.faults new.err.faults × (new.files.counts.faults ≡ old.files.counts.faults)
+    × (new.out.faults ≡ old.out.faults)
 StopCounts old new Memory = NoFault old new
 
 abbrev pub Counts : {T : Type 0} → World → World → Result T Stop → Type 0
@@ -103,7 +110,8 @@ Comes view stage (Err _) = ⊤
 
 -- The call followed the stage: it left the world new, and answered the result, whose value is read
 -- by `view`. The first three fields hold over all objects, also those whose contents aren't known.
-pub record Follows {T X : Type 0} (view : T → X) (stage : Stage X) (old new : World) (result : Result T Stop) : Type 0 where
+pub record Follows {T X : Type 0} (view : T → X) (stage : Stage X) (old new : World)
+    (result : Result T Stop) : Type 0 where
   pub keeps : Keeps old new
   pub counts : Counts old new result
   pub comes : Comes view stage result

@@ -3,9 +3,19 @@ use Rattle.std.specs.Prelude.{ℕ, List, [], ◌∷◌, ◌++◌, codes}
 use Rattle.std.specs.Fmt.{decimal}
 use Rattle.km_names.specs.Texts.{cycle_text, not_found_text}
 use Rattle.km_course.specs.declared.refusal.Refusal.{Refusal}
-use Rattle.km_course.specs.declared.refusal.Refusal.TheVariants.{BadModule, Compressed, Cycle, NotFound, Obstacle, BadIndex, BadLine, InstallChosen, KernelWithoutAddress, ListedNotFound, ListedRefused, LoadRefused, ParamsRefused, InUse, RemoveChosen, TooManyModules, TooManyDependencies, TooManyDoubles, OutputTooLarge, BadPath, InnerOutputFull}
+use Rattle.km_course.specs.declared.refusal.Refusal.TheVariants.{BadModule, Compressed, Cycle}
+use Rattle.km_course.specs.declared.refusal.Refusal.TheVariants.{NotFound, Obstacle, BadIndex}
+use Rattle.km_course.specs.declared.refusal.Refusal.TheVariants.{BadLine, InstallChosen}
+use Rattle.km_course.specs.declared.refusal.Refusal.TheVariants.{KernelWithoutAddress}
+use Rattle.km_course.specs.declared.refusal.Refusal.TheVariants.{ListedNotFound, ListedRefused}
+use Rattle.km_course.specs.declared.refusal.Refusal.TheVariants.{LoadRefused, ParamsRefused, InUse}
+use Rattle.km_course.specs.declared.refusal.Refusal.TheVariants.{RemoveChosen, TooManyModules}
+use Rattle.km_course.specs.declared.refusal.Refusal.TheVariants.{TooManyDependencies}
+use Rattle.km_course.specs.declared.refusal.Refusal.TheVariants.{TooManyDoubles, OutputTooLarge}
+use Rattle.km_course.specs.declared.refusal.Refusal.TheVariants.{BadPath, InnerOutputFull}
 use Rattle.km_course.specs.declared.end.End.{End}
-use Rattle.km_course.specs.declared.end.End.TheVariants.{Refused, NotUnderstood, NoFile, TooLarge, Inner}
+use Rattle.km_course.specs.declared.end.End.TheVariants.{Refused, NotUnderstood, NoFile, TooLarge}
+use Rattle.km_course.specs.declared.end.End.TheVariants.{Inner}
 
 -- The line of a text.
 abbrev pub line : List ℕ → List ℕ

@@ -1,5 +1,6 @@
 -- What is seen of the three objects that the program gets, and what acts do to what is seen.
-use Rattle.std.specs.Prelude.{◌≡◌, ℕ, zero, suc, ◌≤◌, List, [], ◌∷◌, ◌++◌, take, Option, Some, None, is_some, IsSomeAnd}
+use Rattle.std.specs.Prelude.{◌≡◌, ℕ, zero, suc, ◌≤◌, List, [], ◌∷◌, ◌++◌, take, Option, Some, None}
+use Rattle.std.specs.Prelude.{is_some, IsSomeAnd}
 use Rattle.std.specs.Option.{option_map}
 use Rattle.km_outside.specs.CallCounts.{NoneFell}
 use Rattle.km_outside.specs.Contents.{Contents}
@@ -94,8 +95,8 @@ abbrev pub NotFewer : Option ℕ → Option ℕ → Type 0
 NotFewer None new = new ≡ None
 NotFewer (Some n) new = IsSomeAnd new (λ m. n ≤ m)
 
--- What no call on files changes: whether the contents and the number of calls are known, and whether
--- the files are sure. What never falls: the number of calls, and the counts.
+-- What no call on files changes: whether the contents and the number of calls are known, and
+-- whether the files are sure. What never falls: the number of calls, and the counts.
 pub record KeepsFiles (old new : FilesSeen) : Type 0 where
   pub told : is_some new.contents ≡ is_some old.contents
   pub calls : NotFewer old.calls new.calls

@@ -1,6 +1,7 @@
 ghost use Rattle.std.specs.Prelude.{◌≡◌, ◌++◌, Err, IfOk, OnErr};
 ghost use Rattle.km_outside.specs.OutSeen.{WriteAnswers};
-ghost use Rattle.km_course.specs.Carries.{Closes, Concludes, IsRefused, SaysOf, WritesLine, stop_line, stop_status, unwritten_status};
+ghost use Rattle.km_course.specs.Carries.{Closes, Concludes, IsRefused, SaysOf, WritesLine};
+ghost use Rattle.km_course.specs.Carries.{stop_line, stop_status, unwritten_status};
 ghost use Rattle.km_course.specs.Conclusion.{conclusion_status};
 ghost use Rattle.km_course.specs.Lines.{end_line};
 ghost use Rattle.km_course.specs.declared.stop.Stop.TheVariants.{Ended, Memory};
@@ -70,7 +71,8 @@ pub fn concluded<E: Out>(alloc: Global, outcome: Result<(), Stop>, err: &mut E) 
 /// Writes the line of the stop to err and returns the conclusion. If the text of a refusal can't be
 /// made, it is the line for that.
 fn conclude_stop<E: Out>(alloc: Global, stop: &Stop, err: &mut E) -> Conclusion
-    ensures { Concludes (Err stop.now) (E.seen err.old) (E.seen err.new) (conclusion_status result) }
+    ensures { Concludes (Err stop.now) (E.seen err.old) (E.seen err.new)
+        (conclusion_status result) }
 {
     match said(alloc, stop) {
         Ok(text) => close(err, stop, text.as_bytes()),
@@ -176,7 +178,8 @@ fn write_around<E: Out>(
     middle: &[u8],
     after: &[u8],
 ) -> Result<(), OutFailed>
-    ensures { WriteAnswers ((before.now ++ middle.now) ++ after.now) (E.seen err.old) (E.seen err.new) result }
+    ensures { WriteAnswers ((before.now ++ middle.now) ++ after.now) (E.seen err.old)
+        (E.seen err.new) result }
 {
     err.write(before)?;
     err.write(middle)?;

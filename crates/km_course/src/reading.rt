@@ -31,7 +31,8 @@ pub fn read_needed_into<F: Reads>(
     path: &PathText,
     buffer: &mut FileBuffer,
 ) -> Result<(), Stop>
-    ensures follows { FollowsOnFilesAs (λ done. buffer.new) (reads path.now) F.seen files.old files.new result }
+    ensures follows { FollowsOnFilesAs (λ done. buffer.new) (reads path.now) F.seen files.old
+        files.new result }
     ensures limit { OnOk result (length buffer.new ≤ file_limit) }
 {
     let named = PathText::from_slice(alloc, path.as_bytes())?;

@@ -1,5 +1,6 @@
 -- The numbers of files as the crate `byteorder` states them.
-use Rattle.std.proofs.Common.{◌≡◌, ℕ, zero, suc, ◌+◌, ◌*◌, ◌-◌, List, length, take, drop, slice_index, add-one, refl, sym, ap, ◌∙◌, arith}
+use Rattle.std.proofs.Common.{◌≡◌, ℕ, zero, suc, ◌+◌, ◌*◌, ◌-◌, List, length, take, drop}
+use Rattle.std.proofs.Common.{slice_index, add-one, refl, sym, ap, ◌∙◌, arith}
 use Rattle.std.proofs.Math.Nat.{add-zero, add-suc, pow-suc}
 use Rattle.std.proofs.lemmas.List.{get_or-drop, take_rest}
 use Rattle.byteorder.specs.Endian.{big_from, big_number, little_from, little_number}
@@ -40,12 +41,14 @@ big_from-drop o i (suc n) b =
     rw (get_or-drop o b i 0, big_from-drop o (suc i) n b, add-suc) refl
 
 -- the number at a place, as it is read at the front of what is left
-pub little_number-rest : (n o : ℕ) (b : List ℕ) → little_number n (take (length b - o) (drop o b)) ≡ le b o n
+pub little_number-rest : (n o : ℕ) (b : List ℕ)
+    → little_number n (take (length b - o) (drop o b)) ≡ le b o n
 little_number-rest n o b =
     ap (little_number n) (take_rest b o) ∙ little_from-drop o 0 n b
     ∙ ap (λ i. little_from i n b) (add-zero o) ∙ little_from-le o n b
 
-pub big_number-rest : (n o : ℕ) (b : List ℕ) → big_number n (take (length b - o) (drop o b)) ≡ be b o n
+pub big_number-rest : (n o : ℕ) (b : List ℕ)
+    → big_number n (take (length b - o) (drop o b)) ≡ be b o n
 big_number-rest n o b =
     ap (big_number n) (take_rest b o) ∙ big_from-drop o 0 n b
     ∙ ap (λ i. big_from i n b) (add-zero o) ∙ big_from-be o n b

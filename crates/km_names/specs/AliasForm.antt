@@ -1,5 +1,6 @@
 -- The normal form of aliases and of their patterns, as kmod keeps them: modprobe.d(5), "alias".
-use Rattle.std.specs.Prelude.{ℕ, List, [], ◌∷◌, ◌++◌, Bool, true, not, ◌&&◌, ◌==◌, if◌then◌else◌, Option, Some, None, map, drop, unwrap_or}
+use Rattle.std.specs.Prelude.{ℕ, List, [], ◌∷◌, ◌++◌, Bool, true, not, ◌&&◌, ◌==◌, if◌then◌else◌}
+use Rattle.std.specs.Prelude.{Option, Some, None, map, drop, unwrap_or}
 use Rattle.std.specs.List.{slice_split, before_first, position_or_len, list_any, join_with_byte}
 use Rattle.km_names.specs.Path.{underscored}
 
@@ -17,7 +18,8 @@ brackets_pair (part ∷ next ∷ parts) = opens part && brackets_pair (next ∷ 
 -- A part of such a text, with each `-` before its `[` replaced by `_`.
 abbrev pub underscored_outside : List ℕ → List ℕ
 underscored_outside part =
-    underscored (before_first (λ b. b == 91) part) ++ drop (position_or_len (λ b. b == 91) part) part
+    underscored (before_first (λ b. b == 91) part)
+    ++ drop (position_or_len (λ b. b == 91) part) part
 
 -- The normal form of an alias or a pattern: each `-` outside brackets becomes `_`. A `[` opens a
 -- bracket up to the next `]`. The form is None if a `[` has no `]` after it, or a `]` is outside a

@@ -1,5 +1,6 @@
 -- The lines of text files, and the joined lines of configuration files. modprobe.d(5), depmod.d(5).
-use Rattle.std.specs.Prelude.{ℕ, ◌+◌, ◌-◌, List, [], ◌∷◌, ◌++◌, Bool, false, not, ◌==◌, if◌then◌else◌, nat_eq, length, take, map, filter}
+use Rattle.std.specs.Prelude.{ℕ, ◌+◌, ◌-◌, List, [], ◌∷◌, ◌++◌, Bool, false, not, ◌==◌}
+use Rattle.std.specs.Prelude.{if◌then◌else◌, nat_eq, length, take, map, filter}
 use Rattle.std.specs.List.{slice_split, ends_with}
 use Rattle.km_names.specs.declared.conf.Line.{Line}
 use Rattle.km_names.specs.Space.{trimmed}
@@ -22,14 +23,16 @@ goes_on line = ends_with nat_eq line (92 ∷ [])
 -- The lines with a text put before the first of them, under the text's own number.
 abbrev pub onto_line : ℕ → List ℕ → List Line → List Line
 onto_line number front [] = record { number = number; text = front } ∷ []
-onto_line number front (line ∷ lines) = record { number = number; text = front ++ line.text } ∷ lines
+onto_line number front (line ∷ lines) =
+    record { number = number; text = front ++ line.text } ∷ lines
 
 -- The joined lines, if the first line has this number. A line that continues goes before the text
 -- of the next, without its `\`, and keeps its own number.
 abbrev pub joined_lines : ℕ → List (List ℕ) → List Line
 joined_lines number [] = []
 joined_lines number (line ∷ lines) =
-    if goes_on line then onto_line number (take (length line - 1) line) (joined_lines (number + 1) lines)
+    if goes_on line
+    then onto_line number (take (length line - 1) line) (joined_lines (number + 1) lines)
     else record { number = number; text = line } ∷ joined_lines (number + 1) lines
 
 -- Whether a text states something: it isn't empty, and it isn't a comment, which begins with `#`.

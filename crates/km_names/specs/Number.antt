@@ -1,5 +1,6 @@
 -- Numbers as files have them: bytes at a place, the lowest or the highest first.
-use Rattle.std.specs.Prelude.{ℕ, zero, suc, ◌+◌, ◌*◌, ◌^◌, List, slice_index, nat_lt, ℤ, pos, ◌-ℤ◌, if◌then◌else◌}
+use Rattle.std.specs.Prelude.{ℕ, zero, suc, ◌+◌, ◌*◌, ◌^◌, List, slice_index, nat_lt, ℤ, pos, ◌-ℤ◌}
+use Rattle.std.specs.Prelude.{if◌then◌else◌}
 
 -- The number in the n bytes from place o of b, the lowest first. It is the sum of b[o + i] * 256^i
 -- over i below n. gABI 4, "Data Encoding", ELFDATA2LSB.

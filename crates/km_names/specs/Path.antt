@@ -1,5 +1,6 @@
 -- Paths of modules: their names, how they are joined, and which are of compressed modules.
-use Rattle.std.specs.Prelude.{ℕ, ◌-◌, List, ◌∷◌, ◌++◌, Bool, ◌||◌, ◌==◌, if◌then◌else◌, codes, map, length, take, nat_eq}
+use Rattle.std.specs.Prelude.{ℕ, ◌-◌, List, ◌∷◌, ◌++◌, Bool, ◌||◌, ◌==◌, if◌then◌else◌, codes, map}
+use Rattle.std.specs.Prelude.{length, take, nat_eq}
 use Rattle.std.specs.List.{before_first, after_last, suffix_len, ends_with}
 
 -- The text with each `-` replaced by `_`: names of modules that differ only in this are the same.
@@ -16,7 +17,9 @@ module_name path = underscored (before_first (λ b. b == 46) (after_last (λ b. 
 -- depmod(8).
 abbrev pub is_compressed : List ℕ → Bool
 is_compressed path =
-    ends_with nat_eq path (codes ".ko.gz") || ends_with nat_eq path (codes ".ko.xz") || ends_with nat_eq path (codes ".ko.zst")
+    ends_with nat_eq path (codes ".ko.gz")
+    || ends_with nat_eq path (codes ".ko.xz")
+    || ends_with nat_eq path (codes ".ko.zst")
 
 -- The path without the slashes at its end.
 abbrev pub without_end_slashes : List ℕ → List ℕ

@@ -26,7 +26,8 @@ bad_place file number (Some statement) = None
 -- The places of the lines of a file that aren't understood, in order; `read` reads the text of a
 -- line.
 abbrev pub bad_places : {X : Type 0} → (List ℕ → Option X) → ConfFile → List (Option LinePlace)
-bad_places read file = map (λ (line : Line). bad_place file.path line.number (read line.text)) (conf_lines file.bytes)
+bad_places read file =
+    map (λ (line : Line). bad_place file.path line.number (read line.text)) (conf_lines file.bytes)
 
 -- The statements of a file, in order.
 abbrev pub file_statements : {X : Type 0} → (List ℕ → Option X) → ConfFile → List X
@@ -47,5 +48,6 @@ unless_fault (Some fault) x = Err fault
 
 -- What the files state: the statements of their lines, or the place of the first line that isn't
 -- understood.
-unfoldable pub parsed : {X : Type 0} → (List ℕ → Option X) → List ConfFile → Result (List X) LinePlace
+unfoldable pub parsed : {X : Type 0} → (List ℕ → Option X) → List ConfFile
+    → Result (List X) LinePlace
 parsed read files = unless_fault (bad_line read files) (stated read files)

@@ -13,4 +13,6 @@ not_found_text name = codes "not found " ++ name
 -- The text for modules that depend on each other in a cycle. Each name leads to the next, and the
 -- last to the first, which is named again.
 abbrev pub cycle_text : List (List ℕ) → List ℕ
-cycle_text names = codes "cycle " ++ (flat_map (λ name. name ++ codes " -> ") names ++ unwrap_or (slice_get names 0) [])
+cycle_text names =
+    codes "cycle "
+    ++ (flat_map (λ name. name ++ codes " -> ") names ++ unwrap_or (slice_get names 0) [])

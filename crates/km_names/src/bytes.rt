@@ -1,4 +1,5 @@
-ghost use Rattle.std.specs.Prelude.{◌≡◌, ◌≤◌, ◌↔◌, ◌==◌, [], ◌∷◌, ◌++◌, length, map, IsNone, OnOk, OnErr, IfOk, slice_get, option_copied};
+ghost use Rattle.std.specs.Prelude.{◌≡◌, ◌≤◌, ◌↔◌, ◌==◌, [], ◌∷◌, ◌++◌, length, map, IsNone, OnOk};
+ghost use Rattle.std.specs.Prelude.{OnErr, IfOk, slice_get, option_copied};
 ghost use Rattle.std.specs.List.{flat_map};
 ghost use Rattle.km_names.specs.Texts.{spaced};
 

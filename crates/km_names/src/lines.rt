@@ -1,4 +1,5 @@
-ghost use Rattle.std.specs.Prelude.{◌≡◌, ◌+◌, ◌-◌, ◌<◌, ◌≤◌, ◌++◌, ◌∷◌, [], ℕ, length, IfOk, OnOk, IsTrue};
+ghost use Rattle.std.specs.Prelude.{◌≡◌, ◌+◌, ◌-◌, ◌<◌, ◌≤◌, ◌++◌, ◌∷◌, [], ℕ, length, IfOk, OnOk};
+ghost use Rattle.std.specs.Prelude.{IsTrue};
 ghost use Rattle.km_names.specs.Limit.{file_limit};
 ghost use Rattle.km_names.specs.Lines.{lines_of, joined_lines, goes_on, statements, conf_lines};
 
@@ -52,9 +53,11 @@ fn first_joined(alloc: Global, text: &[u8]) -> Result<Joined<'_>, AllocError>
     requires some { 0 < length text.now }
     requires few { length text.now ≤ file_limit }
     ensures lines { IfOk result (λ joined. (number : ℕ) → joined_lines number (lines_of text.now)
-        ≡ record { number = number; text = joined.text } ∷ joined_lines (number + joined.count) (lines_of joined.rest.now)) }
+        ≡ record { number = number; text = joined.text }
+        ∷ joined_lines (number + joined.count) (lines_of joined.rest.now)) }
     ensures shorter { IfOk result (λ joined. length joined.rest.now < length text.now) }
-    ensures count { IfOk result (λ joined. joined.count + length joined.rest.now ≤ length text.now) }
+    ensures count { IfOk result
+        (λ joined. joined.count + length joined.rest.now ≤ length text.now) }
 {
     let mut joined = Blob::new(alloc);
     let mut rest = text;

@@ -1,4 +1,5 @@
-ghost use Rattle.std.specs.Prelude.{◌≡◌, ◌≤◌, ◌↔◌, ◌==◌, [], ◌∷◌, ◌++◌, length, IsNone, OnOk, OnErr, slice_get, option_copied};
+ghost use Rattle.std.specs.Prelude.{◌≡◌, ◌≤◌, ◌↔◌, ◌==◌, [], ◌∷◌, ◌++◌, length, IsNone, OnOk};
+ghost use Rattle.std.specs.Prelude.{OnErr, slice_get, option_copied};
 
 use crate::{Blob, Name, PathText};
 use std::alloc::{AllocError, Global};
@@ -54,8 +55,8 @@ impl<T: Drop> List<T> {
         Ok(())
     }
 
-    /// Puts the items of another list at the end. If they are refused, they are dropped and the list
-    /// is as before.
+    /// Puts the items of another list at the end. If they are refused, they are dropped and the
+    /// list is as before.
     pub fn append(&mut self, mut more: List<T>) -> Result<(), AllocError>
         ensures ok { OnOk result (self.new ≡ self.old ++ more) }
         ensures err { OnErr result (self.new ≡ self.old) }

@@ -1,6 +1,7 @@
 ghost use Rattle.std.specs.Prelude.{◌≡◌, ◌==◌, IfOk};
 ghost use Rattle.std.specs.List.{before_first, after_last};
-ghost use Rattle.km_names.specs.Path.{underscored, module_name, is_compressed, without_end_slashes, path_below};
+ghost use Rattle.km_names.specs.Path.{underscored, module_name, is_compressed, without_end_slashes};
+ghost use Rattle.km_names.specs.Path.{path_below};
 
 use crate::{Name, PathText};
 use memchr::{memchr, memrchr};

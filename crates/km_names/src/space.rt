@@ -1,6 +1,7 @@
 ghost use Rattle.std.specs.Prelude.{◌≡◌, ◌≤◌, ◌++◌, ◌∷◌, [], length, IfOk, OnOk};
 ghost use Rattle.std.specs.List.{position_or_len};
-ghost use Rattle.km_names.specs.Space.{is_space, trimmed, trimmed_start, trimmed_end, first_word, rest_after_word, nonempty, words as words_spec};
+ghost use Rattle.km_names.specs.Space.{is_space, trimmed, trimmed_start, trimmed_end, first_word};
+ghost use Rattle.km_names.specs.Space.{rest_after_word, nonempty, words as words_spec};
 
 use crate::{Blob, Texts};
 use std::alloc::{AllocError, Global};

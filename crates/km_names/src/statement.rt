@@ -1,4 +1,5 @@
-ghost use Rattle.std.specs.Prelude.{◌≡◌, ◌≤◌, ◌++◌, ◌⊎◌, ℕ, List, Option, length, option_map, All, IfOk, IfErr, OnOk};
+ghost use Rattle.std.specs.Prelude.{◌≡◌, ◌≤◌, ◌++◌, ◌⊎◌, ℕ, List, Option, length, option_map, All};
+ghost use Rattle.std.specs.Prelude.{IfOk, IfErr, OnOk};
 ghost use Rattle.std.specs.Result.{result_err};
 ghost use Rattle.km_names.specs.First.{first};
 ghost use Rattle.km_names.specs.Limit.{file_limit};
@@ -41,7 +42,8 @@ fn parse_file<S: Statement>(
 ) -> Result<(), ConfFault>
     requires { length file.now.bytes ≤ file_limit }
     ensures ok { OnOk result (first (bad_places S.read file.now) ≡ None) }
-    ensures statements { OnOk result (statements.new ≡ statements.old ++ file_statements S.read file.now) }
+    ensures statements { OnOk result
+        (statements.new ≡ statements.old ++ file_statements S.read file.now) }
     ensures err { IfErr result (λ fault.
         (fault ≡ ConfFault.Memory)
         ⊎ (option_map line_fault (first (bad_places S.read file.now)) ≡ Some fault)) }

@@ -1,7 +1,8 @@
 -- What a contract sees of the files of the machine that the program runs on: only counts.
 use Rattle.std.specs.Prelude.{ℕ, ◌<◌, false, Some, None, ⊤}
 use Rattle.std.specs.declared.io.ErrorKind.{ErrorKind}
-use Rattle.std.specs.declared.io.ErrorKind.TheVariants.{NotFound, NotADirectory, IsADirectory, OutOfMemory}
+use Rattle.std.specs.declared.io.ErrorKind.TheVariants.{NotFound, NotADirectory, IsADirectory}
+use Rattle.std.specs.declared.io.ErrorKind.TheVariants.{OutOfMemory}
 use Rattle.km_outside.specs.Counted.{Counted}
 use Rattle.km_outside.specs.FilesSeen.{FilesSeen}
 use Rattle.km_outside.specs.declared.files.FileAnswer.{FileAnswer}
@@ -9,7 +10,8 @@ use Rattle.km_outside.specs.declared.files.FileAnswer.TheVariants.{Absent, Faile
 
 -- What is seen of them as files: their contents aren't known, and calls may fail.
 abbrev pub disk_seen : Counted → FilesSeen
-disk_seen counted = record { counts = counted.counts; calls = Some counted.calls; contents = None; sure = false }
+disk_seen counted =
+    record { counts = counted.counts; calls = Some counted.calls; contents = None; sure = false }
 
 -- The answer to an error of the system. It is Absent if nothing is there, if a part of the path is
 -- no folder, and if a folder is there.

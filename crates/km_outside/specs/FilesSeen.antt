@@ -1,5 +1,6 @@
 -- What a contract sees of the files that a program gets, and what each call may answer and leave.
-use Rattle.std.specs.Prelude.{◌≡◌, ◌≢◌, ℕ, ◌≤◌, ◌<◌, min, Bool, true, false, List, [], length, Option, Some, None, Result, Ok, Err, IfSome, IsSomeAnd, All, ⊤}
+use Rattle.std.specs.Prelude.{◌≡◌, ◌≢◌, ℕ, ◌≤◌, ◌<◌, min, Bool, true, false, List, [], length}
+use Rattle.std.specs.Prelude.{Option, Some, None, Result, Ok, Err, IfSome, IsSomeAnd, All, ⊤}
 use Rattle.std.specs.Option.{option_map}
 use Rattle.std.specs.List.Sorted.{IsStrictlySortedBy}
 use Rattle.std.specs.FinMap as map
@@ -32,31 +33,40 @@ one_called files counts = record files { counts = counts; calls = option_map one
 -- of a file past the limit. Over known contents these are the file's own. It may also answer that
 -- the call failed, if the files aren't sure, or out of memory.
 abbrev pub IsReadAt : List ℕ → FilesSeen → Result (List ℕ) FileAnswer → Type 0
-IsReadAt path files (Ok bytes) = (length bytes ≤ file_limit) × IfSome files.contents (λ told. map.get told path ≡ Some bytes)
+IsReadAt path files (Ok bytes) =
+    (length bytes ≤ file_limit) × IfSome files.contents (λ told. map.get told path ≡ Some bytes)
 IsReadAt path files (Err Absent) = IfSome files.contents (λ told. map.get told path ≡ None)
 IsReadAt path files (Err Failed) = files.sure ≡ false
 IsReadAt path files (Err (TooLarge n)) =
-    (file_limit < n) × IfSome files.contents (λ told. IsSomeAnd (map.get told path) (λ bytes. n ≡ min (length bytes) count_end))
+    (file_limit < n)
+    × IfSome files.contents
+    (λ told. IsSomeAnd (map.get told path) (λ bytes. n ≡ min (length bytes) count_end))
 IsReadAt path files (Err Memory) = ⊤
 
 -- What a listing of the folder for the names that pass the test may answer: names within the limit,
 -- that nothing lies below it, or their number past the limit. Names are each once and rising by
 -- bytes. Over known contents the answer is the folder's own. It may also answer that the call
 -- failed, if the files aren't sure, or out of memory.
-abbrev pub IsListOf : (List ℕ → Bool) → List ℕ → FilesSeen → Result (List (List ℕ)) FileAnswer → Type 0
+abbrev pub IsListOf : (List ℕ → Bool) → List ℕ → FilesSeen → Result (List (List ℕ)) FileAnswer
+    → Type 0
 IsListOf fits folder files (Ok names) =
-    IsStrictlySortedBy by_bytes names × All (λ name. fits name ≡ true) names × (length names ≤ list_limit)
-    × IfSome files.contents (λ told. (names ≡ listed fits folder told) × (listed is_path folder told ≢ []))
-IsListOf fits folder files (Err Absent) = IfSome files.contents (λ told. listed is_path folder told ≡ [])
+    IsStrictlySortedBy by_bytes names × All (λ name. fits name ≡ true) names
+    × (length names ≤ list_limit)
+    × IfSome files.contents
+    (λ told. (names ≡ listed fits folder told) × (listed is_path folder told ≢ []))
+IsListOf fits folder files (Err Absent) =
+    IfSome files.contents (λ told. listed is_path folder told ≡ [])
 IsListOf fits folder files (Err Failed) = files.sure ≡ false
 IsListOf fits folder files (Err (TooLarge n)) =
-    (list_limit < n) × IfSome files.contents (λ told. n ≡ min (length (listed fits folder told)) count_end)
+    (list_limit < n)
+    × IfSome files.contents (λ told. n ≡ min (length (listed fits folder told)) count_end)
 IsListOf fits folder files (Err Memory) = ⊤
 
 -- What a read answers and leaves: one more call was made, whose cause is counted if it is refused,
 -- and nothing else changes.
 abbrev pub ReadAnswers : List ℕ → FilesSeen → FilesSeen → Result (List ℕ) FileAnswer → Type 0
-ReadAnswers path old new result = (new ≡ one_called old (answered old.counts result)) × IsReadAt path old result
+ReadAnswers path old new result =
+    (new ≡ one_called old (answered old.counts result)) × IsReadAt path old result
 
 -- The answer of a read into a buffer that holds these bytes after it.
 abbrev pub buffered : List ℕ → Result ⊤ FileAnswer → Result (List ℕ) FileAnswer
@@ -65,17 +75,20 @@ buffered bytes (Err refusal) = Err refusal
 
 -- What a listing answers and leaves: one more call was made, whose cause is counted if it is
 -- refused, and nothing else changes.
-abbrev pub ListAnswers : (List ℕ → Bool) → List ℕ → FilesSeen → FilesSeen → Result (List (List ℕ)) FileAnswer → Type 0
+abbrev pub ListAnswers : (List ℕ → Bool) → List ℕ → FilesSeen → FilesSeen
+    → Result (List (List ℕ)) FileAnswer → Type 0
 ListAnswers fits folder old new result =
     (new ≡ one_called old (answered old.counts result)) × IsListOf fits folder old result
 
 -- The files with these bytes at the path, if the contents are known.
 abbrev pub with_file_at : List ℕ → List ℕ → FilesSeen → FilesSeen
-with_file_at path bytes files = record files { contents = option_map (λ told. map.insert told path bytes) files.contents }
+with_file_at path bytes files =
+    record files { contents = option_map (λ told. map.insert told path bytes) files.contents }
 
 -- What a replacement of the file at the path answers and leaves: the bytes are there and nothing
 -- else changes, or all contents are as before.
-abbrev pub ReplaceAnswers : List ℕ → List ℕ → FilesSeen → FilesSeen → Result ⊤ ReplaceAnswer → Type 0
+abbrev pub ReplaceAnswers : List ℕ → List ℕ → FilesSeen → FilesSeen → Result ⊤ ReplaceAnswer
+    → Type 0
 ReplaceAnswers path bytes old new (Ok done) =
     new ≡ with_file_at path bytes (one_called old (replied old.counts (Ok done)))
 ReplaceAnswers path bytes old new (Err replaces.Failed) =

@@ -1,17 +1,20 @@
 -- What a contract sees of files that are kept in memory.
-use Rattle.std.specs.Prelude.{ℕ, nat_lt, ◌==◌, ◌&&◌, Bool, List, length, min, Option, Some, None, Result, Ok, Err, ⊤, if◌then◌else◌}
+use Rattle.std.specs.Prelude.{ℕ, nat_lt, ◌==◌, ◌&&◌, Bool, List, length, min, Option, Some, None}
+use Rattle.std.specs.Prelude.{Result, Ok, Err, ⊤, if◌then◌else◌}
 use Rattle.std.specs.FinMap as map
 use Rattle.km_names.specs.Limit.{file_limit}
 use Rattle.km_outside.specs.CallCounts.{CallCounts, no_counts, answered, replied}
 use Rattle.km_outside.specs.Contents.{Contents, listed, is_path}
 use Rattle.km_outside.specs.Counts.{count_end, one_more}
-use Rattle.km_outside.specs.CallsSeen.{CallsSeen, no_calls, next_fails, called, with_failing, none_listed}
+use Rattle.km_outside.specs.CallsSeen.{CallsSeen, no_calls, next_fails, called, with_failing}
+use Rattle.km_outside.specs.CallsSeen.{none_listed}
 use Rattle.km_outside.specs.FilesSeen.{FilesSeen, list_limit}
 use Rattle.km_outside.specs.declared.files.FileAnswer.{FileAnswer}
 use Rattle.km_outside.specs.declared.files.FileAnswer.TheVariants.{Absent, Failed, TooLarge}
 use Rattle.km_outside.specs.declared.files.ReplaceAnswer.{ReplaceAnswer}
 use Rattle.km_outside.specs.declared.mem_files.CallKind.{CallKind}
-use Rattle.km_outside.specs.declared.mem_files.CallKind.TheVariants.{Read, ListConf, ListTree, Replace}
+use Rattle.km_outside.specs.declared.mem_files.CallKind.TheVariants.{Read, ListConf, ListTree}
+use Rattle.km_outside.specs.declared.mem_files.CallKind.TheVariants.{Replace}
 
 -- The calls of each kind, by number.
 pub record KindsSeen : Type 0 where
@@ -30,7 +33,10 @@ pub record MemFilesSeen : Type 0 where
 -- Whether no call is listed to fail.
 abbrev pub no_kind_listed : KindsSeen → Bool
 no_kind_listed kinds =
-    none_listed kinds.reads && none_listed kinds.conf_lists && none_listed kinds.tree_lists && none_listed kinds.replaces
+    none_listed kinds.reads
+    && none_listed kinds.conf_lists
+    && none_listed kinds.tree_lists
+    && none_listed kinds.replaces
 
 -- What is seen of them as files. Their contents are known, and they are sure if no call is listed
 -- to fail.
@@ -44,7 +50,8 @@ mem_files_seen files = record {
 
 -- The state of no calls and none listed to fail.
 abbrev pub no_kinds : KindsSeen
-no_kinds = record { reads = no_calls; conf_lists = no_calls; tree_lists = no_calls; replaces = no_calls }
+no_kinds =
+    record { reads = no_calls; conf_lists = no_calls; tree_lists = no_calls; replaces = no_calls }
 
 -- No files, no calls, and none listed to fail.
 abbrev pub no_files : MemFilesSeen
@@ -70,7 +77,9 @@ with_calls kinds Replace calls = record kinds { replaces = calls }
 
 -- The files with the call of this kind and number listed to fail.
 abbrev pub with_failing_call : MemFilesSeen → CallKind → ℕ → MemFilesSeen
-with_failing_call files kind n = record files { kinds = with_calls files.kinds kind (with_failing (calls_of files.kinds kind) n) }
+with_failing_call files kind n =
+    record files
+    { kinds = with_calls files.kinds kind (with_failing (calls_of files.kinds kind) n) }
 
 -- Whether the next call of this kind fails.
 abbrev pub kind_fails : MemFilesSeen → CallKind → Bool
@@ -83,23 +92,31 @@ kind_called kinds kind = with_calls kinds kind (called (calls_of kinds kind))
 -- The answer to a read if these bytes, or nothing, are at the path.
 abbrev pub found : Option (List ℕ) → Result (List ℕ) FileAnswer
 found None = Err Absent
-found (Some bytes) = if nat_lt file_limit (length bytes) then Err (TooLarge (min (length bytes) count_end)) else Ok bytes
+found (Some bytes) =
+    if nat_lt file_limit (length bytes)
+    then Err (TooLarge (min (length bytes) count_end))
+    else Ok bytes
 
 -- The answer to the next read of the path if there is enough memory.
 abbrev pub mem_read : MemFilesSeen → List ℕ → Result (List ℕ) FileAnswer
-mem_read files path = if kind_fails files Read then Err Failed else found (map.get files.contents path)
+mem_read files path =
+    if kind_fails files Read then Err Failed else found (map.get files.contents path)
 
 -- The answer to a listing if this many paths lie below the folder and these names are listed.
 abbrev pub found_names : ℕ → List (List ℕ) → Result (List (List ℕ)) FileAnswer
 found_names below names =
     if below == 0 then Err Absent
-    else if nat_lt list_limit (length names) then Err (TooLarge (min (length names) count_end)) else Ok names
+    else if nat_lt list_limit (length names)
+    then Err (TooLarge (min (length names) count_end))
+    else Ok names
 
 -- The answer to the next listing of this kind if there is enough memory.
-abbrev pub mem_list : MemFilesSeen → CallKind → (List ℕ → Bool) → List ℕ → Result (List (List ℕ)) FileAnswer
+abbrev pub mem_list : MemFilesSeen → CallKind → (List ℕ → Bool) → List ℕ
+    → Result (List (List ℕ)) FileAnswer
 mem_list files kind fits folder =
     if kind_fails files kind then Err Failed
-    else found_names (length (listed is_path folder files.contents)) (listed fits folder files.contents)
+    else found_names (length (listed is_path folder files.contents))
+    (listed fits folder files.contents)
 
 -- The files after the next call of this kind, which read or listed with this answer.
 abbrev pub after_call : {T : Type 0} → MemFilesSeen → CallKind → Result T FileAnswer → MemFilesSeen

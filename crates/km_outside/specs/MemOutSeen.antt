@@ -1,8 +1,10 @@
 -- What a contract sees of an output that is kept in memory.
-use Rattle.std.specs.Prelude.{ℕ, ◌+◌, ◌-◌, ◌≤◌, Bool, true, false, ◌||◌, nat_lt, List, [], ◌++◌, length, Some, None, IfSome, if◌then◌else◌}
+use Rattle.std.specs.Prelude.{ℕ, ◌+◌, ◌-◌, ◌≤◌, Bool, true, false, ◌||◌, nat_lt, List, [], ◌++◌}
+use Rattle.std.specs.Prelude.{length, Some, None, IfSome, if◌then◌else◌}
 use Rattle.std.proofs.Math.Nat.{le-add_right}
 use Rattle.km_outside.specs.Counts.{one_more}
-use Rattle.km_outside.specs.CallsSeen.{CallsSeen, no_calls, next_fails, called, with_failing, none_listed}
+use Rattle.km_outside.specs.CallsSeen.{CallsSeen, no_calls, next_fails, called, with_failing}
+use Rattle.km_outside.specs.CallsSeen.{none_listed}
 use Rattle.km_outside.specs.OutSeen.{OutSeen, Within}
 
 -- The bytes written so far, the room left after them, the writes by number, and how many failed.
@@ -34,7 +36,8 @@ abbrev pub after_write : MemOutSeen → List ℕ → MemOutSeen
 after_write out piece =
     if write_fails out piece
     then record out { writes = called out.writes; faults = one_more out.faults }
-    else record out { writes = called out.writes; bytes = out.bytes ++ piece; left = out.left - length piece }
+    else record out
+    { writes = called out.writes; bytes = out.bytes ++ piece; left = out.left - length piece }
 
 -- The output with the write of number n listed to fail.
 abbrev pub with_failing_write : MemOutSeen → ℕ → MemOutSeen
@@ -43,7 +46,9 @@ with_failing_write out n = record out { writes = with_failing out.writes n }
 -- The bytes written are within the known capacity.
 pub mem_out-within : (out : MemOutSeen) → Within (mem_out_seen out)
 mem_out-within out =
-    elim (none_listed out.writes) as (λ told. IfSome (if told then Some (length out.bytes + out.left) else None) (λ room. length out.bytes ≤ room)) [
+    elim (none_listed out.writes) as
+    (λ told. IfSome (if told then Some (length out.bytes + out.left) else None)
+    (λ room. length out.bytes ≤ room)) [
       | true ↦ le-add_right (length out.bytes) out.left
       | false ↦ tt
     ]

@@ -1,5 +1,6 @@
 -- What a contract sees of an output that a program gets, and what a write may answer.
-use Rattle.std.specs.Prelude.{◌≡◌, ℕ, ◌+◌, ◌≤◌, ◌<◌, List, ◌++◌, length, take, Option, Result, Ok, Err, IfSome, ⊤}
+use Rattle.std.specs.Prelude.{◌≡◌, ℕ, ◌+◌, ◌≤◌, ◌<◌, List, ◌++◌, length, take, Option, Result, Ok}
+use Rattle.std.specs.Prelude.{Err, IfSome, ⊤}
 use Rattle.std.specs.Option.{option_map}
 use Rattle.km_outside.specs.Counts.{one_more}
 use Rattle.km_outside.specs.declared.out.OutFailed.{OutFailed}
@@ -25,7 +26,8 @@ failed out = record out { faults = one_more out.faults }
 
 -- The piece doesn't fit the capacity, if bytes and capacity are known.
 abbrev pub LacksRoom : OutSeen → List ℕ → Type 0
-LacksRoom out piece = IfSome out.told (λ bytes. IfSome out.room (λ room. room < length bytes + length piece))
+LacksRoom out piece =
+    IfSome out.told (λ bytes. IfSome out.room (λ room. room < length bytes + length piece))
 
 -- What a write of the piece may answer, and what it leaves. A failed one may have written a first
 -- part. An output with a known capacity fails exactly if the piece doesn't fit: one that was
@@ -33,4 +35,5 @@ LacksRoom out piece = IfSome out.told (λ bytes. IfSome out.room (λ room. room 
 abbrev pub WriteAnswers : List ℕ → OutSeen → OutSeen → Result ⊤ OutFailed → Type 0
 WriteAnswers piece old new (Ok _) = (new ≡ appended old piece) × Within new
 WriteAnswers piece old new (Err _) =
-    ((n : ℕ) × (n ≤ length piece) × (new ≡ failed (appended old (take n piece)))) × Within new × LacksRoom old piece
+    ((n : ℕ) × (n ≤ length piece) × (new ≡ failed (appended old (take n piece)))) × Within new
+    × LacksRoom old piece

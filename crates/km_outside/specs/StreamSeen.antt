@@ -19,7 +19,8 @@ stream_seen stream = record { faults = stream.faults; told = None; room = None }
 -- What a write of the piece leaves: if the writer's bytes are known, those and then the piece. A
 -- failed one leaves a first part of the piece, and one fault more.
 abbrev pub StreamWrites : List ℕ → StreamSeen → StreamSeen → Result ⊤ OutFailed → Type 0
-StreamWrites piece old new (Ok _) = (new.faults ≡ old.faults) × Appends old.contents new.contents piece
+StreamWrites piece old new (Ok _) =
+    (new.faults ≡ old.faults) × Appends old.contents new.contents piece
 StreamWrites piece old new (Err _) =
     (new.faults ≡ one_more old.faults)
     × ((n : ℕ) × (n ≤ length piece) × Appends old.contents new.contents (take n piece))

@@ -23,7 +23,10 @@ impl Model for Counts {
 
     ghost coded = { counted_code };
 
-    ghost view = { λ c. record { calls = c.calls; counts = record { faults = c.faults; absences = c.absences; excesses = c.excesses } } };
+    ghost view = { λ c. record {
+      calls = c.calls;
+      counts = record { faults = c.faults; absences = c.absences; excesses = c.excesses };
+    } };
 }
 
 impl Counts {

@@ -55,7 +55,8 @@ impl<R: rt::Files + AllocGlobal + Clone + Drop> DiskFiles<R> {
         listing: Listing,
         dir: &PathText,
     ) -> Result<List<Bytes<K>>, FileAnswer>
-        ensures answers { ListAnswers (test_of listing) dir.now (disk_seen self.old) (disk_seen self.new) result }
+        ensures answers { ListAnswers (test_of listing) dir.now (disk_seen self.old)
+            (disk_seen self.new) result }
         ensures after { self.new ≡ one_counted self.old (answered self.old.counts result) }
     {
         self.counts.make();
@@ -87,7 +88,8 @@ impl<R: rt::Files + AllocGlobal + Clone + Drop> Reads for DiskFiles<R> {
         path: &PathText,
         buffer: &mut FileBuffer,
     ) -> Result<(), FileAnswer>
-        ensures answers { ReadAnswers path.now (disk_seen self.old) (disk_seen self.new) (buffered buffer.new result) }
+        ensures answers { ReadAnswers path.now (disk_seen self.old) (disk_seen self.new)
+            (buffered buffer.new result) }
         ensures after { self.new ≡ one_counted self.old (answered self.old.counts result) }
     {
         self.counts.make();
@@ -102,7 +104,8 @@ impl<R: rt::Files + AllocGlobal + Clone + Drop> Reads for DiskFiles<R> {
     /// path is no folder, and if a file is there. A name that isn't UTF-8 and every other error of
     /// the system are `Failed`.
     fn list_conf(&mut self, alloc: Global, dir: &PathText) -> Result<Names, FileAnswer>
-        ensures answers { ListAnswers is_conf_name dir.now (disk_seen self.old) (disk_seen self.new) result }
+        ensures answers { ListAnswers is_conf_name dir.now (disk_seen self.old) (disk_seen self.new)
+            result }
         ensures after { self.new ≡ one_counted self.old (answered self.old.counts result) }
     {
         self.list(alloc, Listing::Conf, dir)
@@ -114,7 +117,8 @@ impl<R: rt::Files + AllocGlobal + Clone + Drop> Writes for DiskFiles<R> {
     /// name. On any failure the new file is removed again. A link at the path is replaced itself,
     /// and its target stays as it was.
     fn replace(&mut self, alloc: Global, path: &PathText, bytes: &[u8]) -> Result<(), ReplaceAnswer>
-        ensures answers { ReplaceAnswers path.now bytes.now (disk_seen self.old) (disk_seen self.new) result }
+        ensures answers { ReplaceAnswers path.now bytes.now (disk_seen self.old)
+            (disk_seen self.new) result }
         ensures after { self.new ≡ one_counted self.old (replied self.old.counts result) }
     {
         self.counts.make();
@@ -130,7 +134,8 @@ impl<R: rt::Files + AllocGlobal + Clone + Drop> Files for DiskFiles<R> {
     /// Lists the regular files below the folder at every depth. Links below it are neither followed
     /// nor listed. The refusals are the same as for a listing of configuration files.
     fn list_tree(&mut self, alloc: Global, dir: &PathText) -> Result<Paths, FileAnswer>
-        ensures answers { ListAnswers is_path dir.now (disk_seen self.old) (disk_seen self.new) result }
+        ensures answers { ListAnswers is_path dir.now (disk_seen self.old) (disk_seen self.new)
+            result }
         ensures after { self.new ≡ one_counted self.old (answered self.old.counts result) }
     {
         self.list(alloc, Listing::Tree, dir)

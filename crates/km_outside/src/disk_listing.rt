@@ -1,6 +1,7 @@
 // A folder of the machine, listed.
 
-ghost use Rattle.std.specs.Prelude.{◌≡◌, ◌≤◌, All, Bool, IfErr, IfOk, List, OnOk, length, map, true, vec_len, ℕ};
+ghost use Rattle.std.specs.Prelude.{◌≡◌, ◌≤◌, All, Bool, IfErr, IfOk, List, OnOk, length, map};
+ghost use Rattle.std.specs.Prelude.{true, vec_len, ℕ};
 ghost use Rattle.std.specs.List.Sorted.{IsStrictlySortedBy};
 ghost use Rattle.km_outside.specs.Contents.{by_bytes};
 ghost use Rattle.km_outside.specs.DiskSeen.{IsPast};
@@ -69,7 +70,8 @@ fn find<R: rt::Files + AllocGlobal + Clone + Drop>(
     listing: Listing,
     folder: &str,
 ) -> Result<Vec<Vec<u8>>, FileAnswer>
-    ensures fits { IfOk result (λ found. All (λ path. test_of listing path.items ≡ true) found.items) }
+    ensures fits { IfOk result
+        (λ found. All (λ path. test_of listing path.items ≡ true) found.items) }
     ensures limit { IfOk result (λ found. vec_len found ≤ list_limit) }
     ensures past { IfErr result (IsPast list_limit) }
 {
@@ -226,7 +228,8 @@ fn answer_below(error: io::Error) -> FileAnswer
 /// Returns the paths in rising order, each once.
 fn rising<K>(alloc: Global, mut found: Vec<Vec<u8>>) -> Result<List<Bytes<K>>, FileAnswer>
     ensures rising { IfOk result (λ names. IsStrictlySortedBy by_bytes names) }
-    ensures kept { (p : List ℕ → Bool) → All (λ path. p path.items ≡ true) found.items → IfOk result (λ names. All (λ name. p name ≡ true) names) }
+    ensures kept { (p : List ℕ → Bool) → All (λ path. p path.items ≡ true) found.items
+        → IfOk result (λ names. All (λ name. p name ≡ true) names) }
     ensures limit { IfOk result (λ names. length names ≤ vec_len found) }
     ensures memory { IfErr result (λ answer. answer ≡ Memory) }
 {

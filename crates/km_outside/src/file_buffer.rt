@@ -71,7 +71,8 @@ impl FileBuffer {
     /// once.
     pub(crate) fn read_from<R: Read>(&mut self, reader: &mut R, expected: usize) -> io::Result<()>
         ensures limit { OnOk result (length self.new ≤ file_limit + 1) }
-        ensures bytes { OnOk result (IfSome (R.remaining reader.old) (λ left. self.new ≡ take (file_limit + 1) left)) }
+        ensures bytes { OnOk result
+            (IfSome (R.remaining reader.old) (λ left. self.new ≡ take (file_limit + 1) left)) }
     {
         self.filled = 0;
         self.filled = read_limited(reader, &mut self.room, expected)?;

@@ -1,6 +1,7 @@
 ghost use Rattle.std.specs.Prelude.{◌≡◌};
 ghost use Rattle.km_outside.specs.Contents.{is_conf_name, is_path};
-ghost use Rattle.km_outside.specs.FilesSeen.{FilesSeen, ListAnswers, ReadAnswers, ReplaceAnswers, buffered};
+ghost use Rattle.km_outside.specs.FilesSeen.{FilesSeen, ListAnswers, ReadAnswers, ReplaceAnswers};
+ghost use Rattle.km_outside.specs.FilesSeen.{buffered};
 
 use crate::FileBuffer;
 use km_names::{Blob, Names, PathText, Paths};
@@ -91,7 +92,8 @@ pub trait Reads {
         path: &PathText,
         buffer: &mut FileBuffer,
     ) -> Result<(), FileAnswer>
-        ensures answers { ReadAnswers path.now (seen self.old) (seen self.new) (buffered buffer.new result) }
+        ensures answers { ReadAnswers path.now (seen self.old) (seen self.new)
+            (buffered buffer.new result) }
     {
         *buffer = FileBuffer::from_blob(self.read(alloc, path)?);
         Ok(())

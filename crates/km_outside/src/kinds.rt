@@ -26,7 +26,12 @@ impl Model for Kinds {
 
     ghost coded = { kinds_code };
 
-    ghost view = { λ k. record { reads = k.reads; conf_lists = k.conf_lists; tree_lists = k.tree_lists; replaces = k.replaces } };
+    ghost view = { λ k. record {
+      reads = k.reads;
+      conf_lists = k.conf_lists;
+      tree_lists = k.tree_lists;
+      replaces = k.replaces;
+    } };
 }
 
 impl Kinds {
@@ -58,7 +63,8 @@ impl Kinds {
     /// Lists the call of this kind and number `n` to fail. After a refusal the calls are as before.
     pub(crate) fn fail(&mut self, kind: CallKind, n: u64) -> Result<(), AllocError>
         requires { n < count_end }
-        ensures ok { OnOk result (self.new ≡ with_calls self.old kind (with_failing (calls_of self.old kind) n)) }
+        ensures ok { OnOk result
+            (self.new ≡ with_calls self.old kind (with_failing (calls_of self.old kind) n)) }
         ensures err { OnErr result (self.new ≡ self.old) }
     {
         match kind {

@@ -37,7 +37,8 @@ impl Listing {
 
     /// Returns the rest of the path after the prefix, a folder and a slash, if it is listed.
     pub(crate) fn rest<'a>(self, prefix: &[u8], path: &'a [u8]) -> Option<&'a [u8]>
-        ensures { option_map (λ rest. rest.now) result ≡ passing (test_of self) (rest_after prefix.now path.now) }
+        ensures { option_map (λ rest. rest.now) result
+            ≡ passing (test_of self) (rest_after prefix.now path.now) }
     {
         match path.strip_prefix(prefix) {
             Some(rest) if self.lists(rest) => Some(rest),

@@ -5,10 +5,13 @@ ghost use Rattle.km_outside.specs.Contents.{is_conf_name, is_path};
 ghost use Rattle.km_outside.specs.Counts.{count_end};
 ghost use Rattle.km_outside.specs.Listing.{kind_of, test_of};
 ghost use Rattle.km_outside.specs.FilesSeen.{ListAnswers, ReadAnswers, ReplaceAnswers};
-ghost use Rattle.km_outside.specs.MemFilesSeen.{mem_files_seen, no_files, with_file, with_failing_call, kind_fails, mem_read, mem_list, after_call, after_replace};
+ghost use Rattle.km_outside.specs.MemFilesSeen.{mem_files_seen, no_files, with_file};
+ghost use Rattle.km_outside.specs.MemFilesSeen.{with_failing_call, kind_fails, mem_read, mem_list};
+ghost use Rattle.km_outside.specs.MemFilesSeen.{after_call, after_replace};
 ghost use Rattle.km_outside.specs.declared.files.FileAnswer.TheVariants.{Memory};
 ghost use Rattle.km_outside.specs.declared.files.ReplaceAnswer.TheVariants.{Failed};
-ghost use Rattle.km_outside.specs.declared.mem_files.CallKind.TheVariants.{Read, ListConf, ListTree, Replace};
+ghost use Rattle.km_outside.specs.declared.mem_files.CallKind.TheVariants.{Read, ListConf};
+ghost use Rattle.km_outside.specs.declared.mem_files.CallKind.TheVariants.{ListTree, Replace};
 
 use crate::counts::Counts;
 use crate::kinds::Kinds;
@@ -53,7 +56,12 @@ impl Model for MemFiles {
 
     ghost coded = { mem_files_code };
 
-    ghost view = { λ f. record { contents = files_of f.files.entries; kinds = f.kinds; calls = f.counts.calls; counts = f.counts.counts } };
+    ghost view = { λ f. record {
+      contents = files_of f.files.entries;
+      kinds = f.kinds;
+      calls = f.counts.calls;
+      counts = f.counts.counts;
+    } };
 }
 
 impl MemFiles {
@@ -107,7 +115,8 @@ impl MemFiles {
         listing: Listing,
         dir: &PathText,
     ) -> Result<List<Bytes<K>>, FileAnswer>
-        ensures exact { (result ≡ mem_list self.old (kind_of listing) (test_of listing) dir.now) ⊎ (result ≡ Err Memory) }
+        ensures exact { (result ≡ mem_list self.old (kind_of listing) (test_of listing) dir.now)
+            ⊎ (result ≡ Err Memory) }
         ensures after { self.new ≡ after_call self.old (kind_of listing) result }
     {
         self.counts.make();
@@ -133,7 +142,8 @@ impl Reads for MemFiles {
 
     /// Returns the bytes at the path, unless this read is listed to fail.
     fn read(&mut self, alloc: Global, path: &PathText) -> Result<Blob, FileAnswer>
-        ensures answers { ReadAnswers path.now (mem_files_seen self.old) (mem_files_seen self.new) result }
+        ensures answers { ReadAnswers path.now (mem_files_seen self.old) (mem_files_seen self.new)
+            result }
         ensures exact { (result ≡ mem_read self.old path.now) ⊎ (result ≡ Err Memory) }
         ensures memory { result ≡ Err Memory → IsOk (mem_read self.old path.now) }
         ensures after { self.new ≡ after_call self.old Read result }
@@ -155,8 +165,10 @@ impl Reads for MemFiles {
     /// Returns the names of the configuration files in the folder, unless this call is listed to
     /// fail.
     fn list_conf(&mut self, alloc: Global, dir: &PathText) -> Result<Names, FileAnswer>
-        ensures answers { ListAnswers is_conf_name dir.now (mem_files_seen self.old) (mem_files_seen self.new) result }
-        ensures exact { (result ≡ mem_list self.old ListConf is_conf_name dir.now) ⊎ (result ≡ Err Memory) }
+        ensures answers { ListAnswers is_conf_name dir.now (mem_files_seen self.old)
+            (mem_files_seen self.new) result }
+        ensures exact { (result ≡ mem_list self.old ListConf is_conf_name dir.now)
+            ⊎ (result ≡ Err Memory) }
         ensures after { self.new ≡ after_call self.old ListConf result }
     {
         self.list(alloc, Listing::Conf, dir)
@@ -171,7 +183,8 @@ impl Writes for MemFiles {
         path: &PathText,
         bytes: &[u8],
     ) -> Result<(), ReplaceAnswer>
-        ensures answers { ReplaceAnswers path.now bytes.now (mem_files_seen self.old) (mem_files_seen self.new) result }
+        ensures answers { ReplaceAnswers path.now bytes.now (mem_files_seen self.old)
+            (mem_files_seen self.new) result }
         ensures fails { result ≡ Err Failed ↔ IsTrue (kind_fails self.old Replace) }
         ensures after { self.new ≡ after_replace self.old path.now bytes.now result }
     {
@@ -187,8 +200,10 @@ impl Writes for MemFiles {
 impl Files for MemFiles {
     /// Returns the paths of the files below the folder, unless this call is listed to fail.
     fn list_tree(&mut self, alloc: Global, dir: &PathText) -> Result<Paths, FileAnswer>
-        ensures answers { ListAnswers is_path dir.now (mem_files_seen self.old) (mem_files_seen self.new) result }
-        ensures exact { (result ≡ mem_list self.old ListTree is_path dir.now) ⊎ (result ≡ Err Memory) }
+        ensures answers { ListAnswers is_path dir.now (mem_files_seen self.old)
+            (mem_files_seen self.new) result }
+        ensures exact { (result ≡ mem_list self.old ListTree is_path dir.now)
+            ⊎ (result ≡ Err Memory) }
         ensures after { self.new ≡ after_call self.old ListTree result }
     {
         self.list(alloc, Listing::Tree, dir)

@@ -17,7 +17,9 @@ pub(crate) fn count_listed(
     listing: Listing,
     prefix: &[u8],
 ) -> usize
-    ensures count { result ≡ length (listed_of (test_of listing) prefix.now (map (λ path. path.items) (tree.keys files.now))) }
+    ensures count { result
+        ≡ length (listed_of (test_of listing) prefix.now
+        (map (λ path. path.items) (tree.keys files.now))) }
     ensures rising { IsStrictlySortedBy by_bytes (map (λ path. path.items) (tree.keys files.now)) }
 {
     let mut count = 0;
@@ -36,7 +38,10 @@ pub(crate) fn collect_listed<K>(
     listing: Listing,
     prefix: &[u8],
 ) -> Result<List<Bytes<K>>, AllocError>
-    ensures { IfOk result (λ names. names ≡ listed_of (test_of listing) prefix.now (map (λ path. path.items) (tree.keys files.now))) }
+    ensures { IfOk result
+        (λ names. names
+        ≡ listed_of (test_of listing) prefix.now
+        (map (λ path. path.items) (tree.keys files.now))) }
 {
     let mut names = List::new(alloc);
     for path in files.keys() {

@@ -1,6 +1,7 @@
 ghost use Rattle.std.specs.Prelude.{◌≡◌, ◌<◌, IfOk, OnOk, OnErr, is_err};
 ghost use Rattle.km_outside.specs.Counts.{count_end};
-ghost use Rattle.km_outside.specs.MemOutSeen.{mem_out_seen, empty_with_room, write_fails, after_write, with_failing_write};
+ghost use Rattle.km_outside.specs.MemOutSeen.{mem_out_seen, empty_with_room, write_fails};
+ghost use Rattle.km_outside.specs.MemOutSeen.{after_write, with_failing_write};
 ghost use Rattle.km_outside.specs.OutSeen.{WriteAnswers};
 
 use crate::calls::Calls;
@@ -24,7 +25,8 @@ impl Model for MemOut {
 
     ghost Value = { MemOutSeen };
 
-    ghost view = { λ o. record { bytes = o.bytes.items; left = o.left; writes = o.writes; faults = o.faults } };
+    ghost view = { λ o. record
+        { bytes = o.bytes.items; left = o.left; writes = o.writes; faults = o.faults } };
 
     ghost invariant = { λ o. length o.bytes.items + o.left ≤ vec_capacity o.bytes };
 }
@@ -70,7 +72,8 @@ impl Out for MemOut {
     /// Appends the piece, unless this write is listed to fail or the piece is longer than the room
     /// left.
     fn write(&mut self, bytes: &[u8]) -> Result<(), OutFailed>
-        ensures answers { WriteAnswers bytes.now (mem_out_seen self.old) (mem_out_seen self.new) result }
+        ensures answers { WriteAnswers bytes.now (mem_out_seen self.old) (mem_out_seen self.new)
+            result }
         ensures fails { is_err result ≡ write_fails self.old bytes.now }
         ensures after { self.new ≡ after_write self.old bytes.now }
     {

@@ -45,7 +45,8 @@ impl<W: Write> Out for Stream<W> {
 
     /// Writes the piece in as many turns as the writer needs. Each turn takes at least one byte.
     fn write(&mut self, bytes: &[u8]) -> Result<(), OutFailed>
-        ensures answers { WriteAnswers bytes.now (stream_seen self.old) (stream_seen self.new) result }
+        ensures answers { WriteAnswers bytes.now (stream_seen self.old) (stream_seen self.new)
+            result }
         ensures writes { StreamWrites bytes.now self.old self.new result }
     {
         let answer = write_whole(&mut self.writer, bytes);

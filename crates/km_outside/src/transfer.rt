@@ -1,7 +1,8 @@
 //! The loops over the library's `read` and `write`. Each turn moves at least one byte, so each loop
 //! ends.
 
-ghost use Rattle.std.specs.Prelude.{◌≡◌, ◌+◌, ◌<◌, ◌≤◌, ℕ, length, take, drop, vec_len, IfOk, OnOk, IfSome, MatchResult};
+ghost use Rattle.std.specs.Prelude.{◌≡◌, ◌+◌, ◌<◌, ◌≤◌, ℕ, length, take, drop, vec_len, IfOk, OnOk};
+ghost use Rattle.std.specs.Prelude.{IfSome, MatchResult};
 ghost use Rattle.std.specs.Io.{ReadsAtMost, WritesAtMost};
 ghost use Rattle.std.specs.Io.KnownBytes.{Appends, Consumes, IsAtEnd, ReadConsumes, WriteAppends};
 ghost use Rattle.km_names.specs.Limit.{file_limit};
@@ -29,7 +30,9 @@ pub(crate) fn read_limited<R: Read>(
     requires { vec_len buffer.old ≤ file_limit + 1 }
     ensures room { vec_len buffer.new ≤ file_limit + 1 }
     ensures filled { IfOk result (λ n. n ≤ vec_len buffer.new) }
-    ensures bytes { IfOk result (λ n. IfSome (R.remaining reader.old) (λ left. take n buffer.new.items ≡ take (file_limit + 1) left)) }
+    ensures bytes { IfOk result
+        (λ n. IfSome (R.remaining reader.old)
+        (λ left. take n buffer.new.items ≡ take (file_limit + 1) left)) }
 {
     lengthen(buffer, expected.clamp(LEAST_ROOM, FILE_LIMIT) + 1)?;
     let mut filled = 0;
@@ -51,7 +54,9 @@ fn read_more<R: Read>(reader: &mut R, buffer: &mut Vec<u8>, filled: usize) -> io
     ensures limit { vec_len buffer.new ≤ file_limit + 1 }
     ensures front { OnOk result (take filled buffer.new.items ≡ take filled buffer.old.items) }
     ensures fits { IfOk result (λ n. filled + n ≤ vec_len buffer.new) }
-    ensures bytes { IfOk result (λ n. Consumes (R.remaining reader.old) (R.remaining reader.new) (take n (drop filled buffer.new.items))) }
+    ensures bytes { IfOk result
+        (λ n. Consumes (R.remaining reader.old) (R.remaining reader.new)
+        (take n (drop filled buffer.new.items))) }
     ensures end { IfOk result (λ n. n ≡ 0 → IsAtEnd (R.remaining reader.new)) }
 {
     if filled == buffer.len() {
@@ -79,7 +84,9 @@ fn read_at<R: Read>(reader: &mut R, buffer: &mut [u8], filled: usize) -> io::Res
     requires { filled < length buffer.old }
     ensures front { take filled buffer.new ≡ take filled buffer.old }
     ensures fits { IfOk result (λ n. filled + n ≤ length buffer.new) }
-    ensures bytes { IfOk result (λ n. Consumes (R.remaining reader.old) (R.remaining reader.new) (take n (drop filled buffer.new))) }
+    ensures bytes { IfOk result
+        (λ n. Consumes (R.remaining reader.old) (R.remaining reader.new)
+        (take n (drop filled buffer.new))) }
     ensures end { IfOk result (λ n. n ≡ 0 → IsAtEnd (R.remaining reader.new)) }
 {
     read_some(reader, &mut buffer[filled..])
@@ -104,7 +111,8 @@ fn read_some<R: Read>(reader: &mut R, room: &mut [u8]) -> io::Result<usize>
 pub(crate) fn write_whole<W: Write>(writer: &mut W, bytes: &[u8]) -> Result<(), OutFailed>
     ensures { MatchResult result
         (λ _. Appends (W.contents writer.old) (W.contents writer.new) bytes.now)
-        (λ _. (n : ℕ) × (n ≤ length bytes.now) × Appends (W.contents writer.old) (W.contents writer.new) (take n bytes.now)) }
+        (λ _. (n : ℕ) × (n ≤ length bytes.now)
+        × Appends (W.contents writer.old) (W.contents writer.new) (take n bytes.now)) }
 {
     let mut written = 0;
     while written < bytes.len() {

@@ -7,7 +7,8 @@ use Rattle.km_course.specs.Course.Outcome.{value, end}
 use Rattle.km_course.specs.Lines.{end_status}
 use Rattle.km_course.specs.World.{World, Shown}
 use Rattle.km_course.specs.declared.end.End.{End}
-use Rattle.km_course.specs.declared.end.End.TheVariants.{Refused, NotUnderstood, NoFile, TooLarge, Inner}
+use Rattle.km_course.specs.declared.end.End.TheVariants.{Refused, NotUnderstood, NoFile, TooLarge}
+use Rattle.km_course.specs.declared.end.End.TheVariants.{Inner}
 use Rattle.kmod_words.specs.declared.depmod.DepmodWords.{DepmodWords}
 use Rattle.command_depmod.specs.Depmod.{target_of_request}
 use Rattle.command_depmod.specs.Files.{all_files}
@@ -33,9 +34,14 @@ some-status e (inr (inr is)) = absurd (omega (arith, is))
 pub record IsDone (asked : DepmodWords) (shown : Shown) (new : World) : Type 0 where
   pub index : IndexedTree
   pub is : IsIndexed shown.files asked index
-  pub files : new.files.contents ≡ Some (with_files (target_of_request asked) (made_of index) (all_files asked.extra) shown.files)
+  pub files : new.files.contents
+      ≡ Some
+      (with_files (target_of_request asked) (made_of index) (all_files asked.extra) shown.files)
 
-pub was-done : (asked : DepmodWords) (shown : Shown) (old new : World) → asked.dry_run ≡ false → (o : Outcome IndexedTree) → ComesTo shown.files asked o → CameTo (status_of o) (told_of asked o shown) (IsPartOf asked o shown) old new 0 → IsDone asked shown new
+pub was-done : (asked : DepmodWords) (shown : Shown) (old new : World) → asked.dry_run ≡ false
+    → (o : Outcome IndexedTree) → ComesTo shown.files asked o
+    → CameTo (status_of o) (told_of asked o shown) (IsPartOf asked o shown) old new 0
+    → IsDone asked shown new
 was-done asked shown old new wet (end e) comes call = absurd (some-status e call.ended)
 was-done asked shown old new wet (value i) comes call =
     let told = call.whole refl in
@@ -44,7 +50,9 @@ was-done asked shown old new wet (value i) comes call =
       is = comes;
       files =
           told.1.files
-          ∙ ap (λ dry. Some (with_files (target_of_request asked) (made_of i) (if dry then [] else all_files asked.extra) shown.files)) wet;
+          ∙ ap (λ dry. Some
+          (with_files (target_of_request asked) (made_of i)
+          (if dry then [] else all_files asked.extra) shown.files)) wet;
     }
 
 same-files : (a b : Contents) → ◌≡◌ {A = Option Contents} (Some a) (Some b) → a ≡ b
@@ -52,19 +60,32 @@ same-files a b is = cc
 
 pub halves-meet : HalvesMeet
 halves-meet first second asked loads l shown told old new later last status d over m =
-    let done : IsIndexing asked shown old new 0 = d.call.understood shown d.tells asked d.words_ask in
-    let h : IsDone asked shown new = was-done asked shown old new d.place.replaces done.outcome done.comes done.call in
+    let done : IsIndexing asked shown old new 0
+    = d.call.understood shown d.tells asked d.words_ask in
+    let h : IsDone asked shown new
+    = was-done asked shown old new d.place.replaces done.outcome done.comes done.call in
     let i : IndexedTree = h.index in
-    let same : with_files (target_of_request asked) (made_of i) (all_files asked.extra) shown.files ≡ told.files = same-files _ told.files (sym h.files ∙ over) in
-    let left : LeftIndexed asked i told.files = subst (LeftIndexed asked i) same (left-indexed shown.files asked i d.place h.is) in
+    let same : with_files (target_of_request asked) (made_of i) (all_files asked.extra) shown.files
+    ≡ told.files
+    = same-files _ told.files (sym h.files ∙ over) in
+    let left : LeftIndexed asked i told.files
+    = subst (LeftIndexed asked i) same (left-indexed shown.files asked i d.place h.is) in
     let l' : Loading = record l { tree = i.tree; indexed = left.kernel; builtin = i.builtin } in (
       i,
       h.is,
       left,
       m.call told m.tells loads m.words_ask l' (record {
         mode = m.mode;
-        stands = left-for-loads shown.files asked i told.files loads l.kernel l.region h.is left m.after;
+        stands
+            = left-for-loads shown.files asked i told.files loads l.kernel l.region h.is left
+            m.after;
         machine = m.after.machine;
-        came = record { knows = m.came.knows; listed = m.came.listed; planned = m.came.planned; runs_none = m.came.runs_none };
+        came
+            = record {
+              knows = m.came.knows;
+              listed = m.came.listed;
+              planned = m.came.planned;
+              runs_none = m.came.runs_none;
+            };
       }),
     )

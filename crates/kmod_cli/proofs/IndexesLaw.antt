@@ -1,6 +1,7 @@
 -- depmod's half of the headline, by the course of a depmod and what a call that carries a course
 -- did.
-use Rattle.std.proofs.Common.{◌≡◌, ◌∙◌, ℕ, ◌≤◌, List, [], ◌++◌, None, refl, sym, ap, subst, arith, append-nil}
+use Rattle.std.proofs.Common.{◌≡◌, ◌∙◌, ℕ, ◌≤◌, List, [], ◌++◌, None, refl, sym, ap, subst, arith}
+use Rattle.std.proofs.Common.{append-nil}
 use Rattle.std.specs.Prelude.{Option, Some, ⊤}
 use Rattle.km_course.specs.Carries.{Carries, outcome_status, whole_acts}
 use Rattle.km_course.specs.Course.{Outcome, Run, ends}
@@ -8,7 +9,8 @@ use Rattle.km_course.specs.Course.Outcome.{value, end}
 use Rattle.km_course.specs.Lines.{end_status, usage}
 use Rattle.km_course.specs.World.{World, Shown, Tells, done}
 use Rattle.km_course.specs.declared.end.End.{End}
-use Rattle.km_course.specs.declared.end.End.TheVariants.{Refused, NotUnderstood, NoFile, TooLarge, Inner}
+use Rattle.km_course.specs.declared.end.End.TheVariants.{Refused, NotUnderstood, NoFile, TooLarge}
+use Rattle.km_course.specs.declared.end.End.TheVariants.{Inner}
 use Rattle.kmod_words.specs.declared.depmod.DepmodWords.{DepmodWords}
 use Rattle.kmod_words.specs.Depmod.{depmod_request}
 use Rattle.command_depmod.specs.Depmod.{depmod_asked_for, depmod_course}
@@ -38,18 +40,25 @@ closes-status (value i) = refl
 closes-status (end e) = refl
 
 -- words that aren't understood have no act
-none-asked : (words : List (List ℕ)) (shown : Shown) → depmod_request words ≡ None → (depmod_course words).run shown.files ≡ run_of [] (end NotUnderstood)
+none-asked : (words : List (List ℕ)) (shown : Shown) → depmod_request words ≡ None
+    → (depmod_course words).run shown.files ≡ run_of [] (end NotUnderstood)
 none-asked words shown none =
-    ap (λ request. (depmod_asked_for request).run shown.files) none ∙ run-given (end NotUnderstood) shown.files
+    ap (λ request. (depmod_asked_for request).run shown.files) none
+    ∙ run-given (end NotUnderstood) shown.files
 
-pub indexes-law : (words : List (List ℕ)) (old new : World) (status : ℕ) → Carries (depmod_course words) old new status → Indexes words old new status
+pub indexes-law : (words : List (List ℕ)) (old new : World) (status : ℕ)
+    → Carries (depmod_course words) old new status → Indexes words old new status
 indexes-law words old new status c = record {
   understood = λ shown tells asked is.
       let course = depmod_course words in
       let run : Run ⊤ = course.run shown.files in
       let h : IsIndexingCourse shown.files asked run =
-      subst (λ request. IsIndexingCourse shown.files asked ((depmod_asked_for request).run shown.files)) (sym is) (courses-index shown.files asked) in
-      let left : Shows (done (whole_acts run) shown) (told_of asked h.outcome shown).files (told_of asked h.outcome shown).out (told_of asked h.outcome shown).err =
+      subst (λ request. IsIndexingCourse shown.files asked
+      ((depmod_asked_for request).run shown.files)) (sym is) (courses-index shown.files asked)
+      in
+      let left : Shows (done (whole_acts run) shown) (told_of asked h.outcome shown).files
+      (told_of asked h.outcome shown).out (told_of asked h.outcome shown).err
+      =
       index-left asked h.outcome h.before run.acts run.outcome shown h.reads h.acts h.ends in
       let part : Cut run.acts shown new → IsPartOf asked h.outcome shown new =
       index-part asked h.outcome h.before run.acts shown new h.reads h.acts in
@@ -57,7 +66,8 @@ indexes-law words old new status c = record {
         outcome = h.outcome;
         comes = h.comes;
         call =
-            came-to course old new status c shown tells (status_of h.outcome) (told_of asked h.outcome shown) left
+            came-to course old new status c shown tells (status_of h.outcome)
+            (told_of asked h.outcome shown) left
             (status-low h.outcome) (ap outcome_status h.ends ∙ closes-status h.outcome) part;
       };
   not_understood = λ shown tells none.
@@ -65,8 +75,10 @@ indexes-law words old new status c = record {
       let run : Run ⊤ = course.run shown.files in
       let is : run ≡ run_of [] (end NotUnderstood) = none-asked words shown none in
       let left : Shows (done (whole_acts run) shown) shown.files shown.out (shown.err ++ usage) =
-      subst (λ (r : Run ⊤). Shows (done (whole_acts r) shown) shown.files shown.out (shown.err ++ usage)) (sym is) (record { files = refl; out = refl; err = refl }) in
-      came-to course old new status c shown tells 2 (record shown { err = shown.err ++ usage }) left (omega arith) (ap (λ (r : Run ⊤). outcome_status r.outcome) is)
+      subst (λ (r : Run ⊤). Shows (done (whole_acts r) shown) shown.files shown.out
+      (shown.err ++ usage)) (sym is) (record { files = refl; out = refl; err = refl }) in
+      came-to course old new status c shown tells 2 (record shown { err = shown.err ++ usage }) left
+      (omega arith) (ap (λ (r : Run ⊤). outcome_status r.outcome) is)
       (λ cut. none-part shown new (subst (λ (r : Run ⊤). Cut r.acts shown new) is cut));
 }
   where

@@ -7,7 +7,8 @@ use Rattle.km_course.specs.World.{World, Shown, Tells}
 -- What the call resulted in. Either its status is the expected one, and files and outputs have
 -- these contents, however many calls on files were made. Or it was cut short, and this holds of
 -- what it left.
-pub record CameTo (expected : ℕ) (told : Shown) (IsPart : World → Type 0) (old new : World) (status : ℕ) : Type 0 where
+pub record CameTo (expected : ℕ) (told : Shown) (IsPart : World → Type 0) (old new : World)
+    (status : ℕ) : Type 0 where
   -- it is this status, or a call on files or outputs failed, or memory ran out
   pub ended : (status ≡ expected) ⊎ (status ≡ 3) ⊎ (status ≡ 4)
   pub whole : status ≡ expected → (calls : Option ℕ) × Tells new (record told { calls = calls })

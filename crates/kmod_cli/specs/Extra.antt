@@ -41,7 +41,10 @@ pub record HasNodes (left : Contents) (folder : List ℕ) (tree : List Facts) : 
 -- made of what it found.
 pub record LeavesExtra (asked : DepmodWords) (held left : Contents) : Type 0 where
   pub info : List ℕ
-  pub found : ((reads_any (path_below (modules_of_request asked) (codes "modules.builtin.modinfo"))).run held).outcome ≡ value info
+  pub found : ((reads_any
+      (path_below (modules_of_request asked) (codes "modules.builtin.modinfo"))).run
+      held).outcome
+      ≡ value info
   pub aliases : HasAliases left (target_of_request asked) info
   pub tree : List Facts
   pub table : Table
@@ -53,5 +56,7 @@ pub record LeavesExtra (asked : DepmodWords) (held left : Contents) : Type 0 whe
 abbrev pub Extra : List (List ℕ) → World → World → ℕ → Type 0
 Extra words old new status =
     (shown : Shown) → Tells old shown →
-    (asked : DepmodWords) → depmod_request words ≡ Some asked → asked.extra ≡ true → asked.dry_run ≡ false →
-    status ≡ 0 → (left : Contents) × (new.files.contents ≡ Some left) × LeavesExtra asked shown.files left
+    (asked : DepmodWords) → depmod_request words ≡ Some asked → asked.extra ≡ true
+    → asked.dry_run ≡ false →
+    status ≡ 0
+    → (left : Contents) × (new.files.contents ≡ Some left) × LeavesExtra asked shown.files left

@@ -16,7 +16,8 @@ use Rattle.kmod_cli.specs.Indexes.{Indexes}
 
 -- A depmod over files and outputs with these known contents replaced its files in the folder of the
 -- modules, by the table of a kernel, and answered status 0.
-pub record IsDepmodDone (words : List (List ℕ)) (asked : DepmodWords) (shown : Shown) (old new : World) : Type 0 where
+pub record IsDepmodDone (words : List (List ℕ)) (asked : DepmodWords) (shown : Shown)
+    (old new : World) : Type 0 where
   pub tells : Tells old shown
   pub words_ask : depmod_request words ≡ Some asked
   pub place : IsInPlace asked
@@ -25,22 +26,26 @@ pub record IsDepmodDone (words : List (List ℕ)) (asked : DepmodWords) (shown :
 -- A modprobe over files and outputs with these known contents was asked to load. It loads from the
 -- folder of that depmod, into a machine whose kernel has its table of the same bytes. No step of
 -- its plan runs a command, and the listed modules load.
-pub record IsLoadOver (held : Shown) (asked : DepmodWords) (words : List (List ℕ)) (loads : ModprobeWords) (l : Loading) (told : Shown) (old new : World) (status : ℕ) : Type 0 where
-  pub tells : Tells old told
-  pub words_ask : modprobe_request words ≡ Some loads
-  pub mode : loads.mode ≡ Load
-  pub after : IsLoadAfter held.files asked told.files loads l.kernel l.region
-  pub came : CameToLoads told.files (inputs_of loads) l
-  pub call : Headline words old new status
+pub record IsLoadOver (held : Shown) (asked : DepmodWords) (words : List (List ℕ))
+    (loads : ModprobeWords) (l : Loading) (told : Shown) (old new : World) (status : ℕ) : Type 0
+  where
+    pub tells : Tells old told
+    pub words_ask : modprobe_request words ≡ Some loads
+    pub mode : loads.mode ≡ Load
+    pub after : IsLoadAfter held.files asked told.files loads l.kernel l.region
+    pub came : CameToLoads told.files (inputs_of loads) l
+    pub call : Headline words old new status
 
 -- If the files of the second call are the ones that the first one left, what the modprobe loads
 -- binds. It prints and writes the lines and images of these loads. The premises on tree and kernel
 -- hold by what the depmod did.
 abbrev pub HalvesMeet : Type 0
 HalvesMeet =
-    (first second : List (List ℕ)) (asked : DepmodWords) (loads : ModprobeWords) (l : Loading) (shown told : Shown) (old new later last : World) (status : ℕ)
+    (first second : List (List ℕ)) (asked : DepmodWords) (loads : ModprobeWords) (l : Loading)
+    (shown told : Shown) (old new later last : World) (status : ℕ)
     → IsDepmodDone first asked shown old new
     → new.files.contents ≡ Some told.files
     → IsLoadOver shown asked second loads l told later last status
     → (i : IndexedTree) × IsIndexed shown.files asked i × (left : LeftIndexed asked i told.files)
-    × LoadsBind loads (record l { tree = i.tree; indexed = left.kernel; builtin = i.builtin }) told later last status
+    × LoadsBind loads (record l { tree = i.tree; indexed = left.kernel; builtin = i.builtin }) told
+    later last status

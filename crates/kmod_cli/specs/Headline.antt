@@ -1,7 +1,8 @@
 -- The headline: what modprobe loads binds, and it prints and writes the lines and images of these
 -- loads. Its premises are that tree and kernel are as depmod indexed them, that no install command
 -- is chosen, and that the listed modules load. modprobe(8), depmod(8).
-use Rattle.std.specs.Prelude.{◌≡◌, ◌<◌, ◌≤◌, ℕ, Bool, true, All, List, [], ◌∷◌, ◌++◌, length, take, reverse, flat_map, codes, Option, Some, None, Ok, Err}
+use Rattle.std.specs.Prelude.{◌≡◌, ◌<◌, ◌≤◌, ℕ, Bool, true, All, List, [], ◌∷◌, ◌++◌, length, take}
+use Rattle.std.specs.Prelude.{reverse, flat_map, codes, Option, Some, None, Ok, Err}
 use Rattle.std.specs.FinMap.{insert}
 use Rattle.km_names.specs.Path.{path_below}
 use Rattle.km_outside.specs.Contents.{Contents}
@@ -25,10 +26,12 @@ use Rattle.stages_files.specs.KernelModules.{modules_folder}
 use Rattle.stages_loads.specs.declared.load.Insertion.{Insertion}
 use Rattle.stages_loads.specs.Loads.{ShownImage, paths_of}
 use Rattle.command_modprobe.specs.Planned.{plan_lines}
-use Rattle.laws_planned_loads.specs.Courses.{CameToLoads, HasMachine, IsIndexedFor, Loading, inputs_of}
+use Rattle.laws_planned_loads.specs.Courses.{CameToLoads, HasMachine, IsIndexedFor, Loading}
+use Rattle.laws_planned_loads.specs.Courses.{inputs_of}
 use Rattle.laws_planned_loads.specs.Files.{AreFileModules}
 use Rattle.laws_planned_loads.specs.Listed.{AreListedPaths}
-use Rattle.laws_planned_loads.specs.Loads.{AreWritable, WentIn, all_images, entries_of, fault_of, inserts_of, modules_of}
+use Rattle.laws_planned_loads.specs.Loads.{AreWritable, WentIn, all_images, entries_of, fault_of}
+use Rattle.laws_planned_loads.specs.Loads.{inserts_of, modules_of}
 use Rattle.kmod_cli.specs.CameTo.{CameTo}
 
 -- ---- where it applies
@@ -53,17 +56,27 @@ pub record IsIndexedLoad (held : Contents) (asked : ModprobeWords) (l : Loading)
 
 -- Why no more modules go into a machine, if these went in and these are left of the plan; with the
 -- status, and the line on err.
-pub data IsEndOfPlan (params : Bool) (machine : Machine) : List WentIn → List Module → ℕ → List ℕ → Type 0 where
+pub data IsEndOfPlan (params : Bool) (machine : Machine) : List WentIn → List Module → ℕ → List ℕ
+    → Type 0 where
   -- all are loaded
-  all_loaded : (went : List WentIn) → All (AreWritable params) went → IsEndOfPlan params machine went [] 0 []
+  all_loaded : (went : List WentIn) → All (AreWritable params) went
+      → IsEndOfPlan params machine went [] 0 []
   -- the next one finds no room in the region, or has a word that doesn't fit there
-  no_place : (went : List WentIn) → All (AreWritable params) went → (m : Module) (ms : List Module) (fault : LoadFault) → step machine m ≡ Err fault → IsPlaceFault fault → IsEndOfPlan params machine went (m ∷ ms) 1 (line (refusal_text (LoadRefused m.facts.name (load_fault_text fault))))
+  no_place : (went : List WentIn) → All (AreWritable params) went
+      → (m : Module) (ms : List Module) (fault : LoadFault) → step machine m ≡ Err fault
+      → IsPlaceFault fault
+      → IsEndOfPlan params machine went (m ∷ ms) 1
+      (line (refusal_text (LoadRefused m.facts.name (load_fault_text fault))))
   -- only with `--params`: the options of the last one that went in can't be written
-  unwritten : (went : List WentIn) → All (AreWritable params) went → (last : WentIn) → params ≡ true → (ms : List Module) (fault : ParamFault) → fault_of last ≡ Some fault → IsEndOfPlan params machine (went ++ last ∷ []) ms 1 (line (refusal_text (ParamsRefused last.entry.loaded.name (param_fault_text fault))))
+  unwritten : (went : List WentIn) → All (AreWritable params) went → (last : WentIn) → params ≡ true
+      → (ms : List Module) (fault : ParamFault) → fault_of last ≡ Some fault
+      → IsEndOfPlan params machine (went ++ last ∷ []) ms 1
+      (line (refusal_text (ParamsRefused last.entry.loaded.name (param_fault_text fault))))
 
 -- What loading a plan results in, whose steps load this, after listed modules were loaded and this
 -- was the machine; with `--params` or without.
-pub record ComesTo (params : Bool) (inserts : List Insertion) (start : Machine) (listed plan : List Module) : Type 0 where
+pub record ComesTo (params : Bool) (inserts : List Insertion) (start : Machine)
+    (listed plan : List Module) : Type 0 where
   -- the first modules of the plan go in, one after the other, and the others are left
   pub went : List WentIn
   pub left : List Module
@@ -100,7 +113,8 @@ with_images (Some images) (s ∷ ss) files =
 
 -- The lines of the plan, and then a line for each image, which has the digest of it.
 abbrev pub printed : ModprobeWords → Loading → List ShownImage → List ℕ
-printed asked l ss = plan_lines (folder_asked asked) l.steps ++ flat_map (λ (s : ShownImage). s.line) ss
+printed asked l ss =
+    plan_lines (folder_asked asked) l.steps ++ flat_map (λ (s : ShownImage). s.line) ss
 
 -- What is known after these images were shown and this line was written on err, except for how many
 -- calls on files were made.
@@ -114,7 +128,8 @@ told_after asked l ss err_line shown = record {
 
 -- A first part of this was done: this many images were put and this many bytes were printed. An
 -- image is put before any of its line is printed, and after all lines of the images before it.
-pub record IsFirstPart (asked : ModprobeWords) (l : Loading) (ss : List ShownImage) (shown : Shown) (new : World) : Type 0 where
+pub record IsFirstPart (asked : ModprobeWords) (l : Loading) (ss : List ShownImage) (shown : Shown)
+    (new : World) : Type 0 where
   pub images : ℕ
   pub bytes : ℕ
   pub files : new.files.contents ≡ Some (with_images asked.image (take images ss) shown.files)
@@ -126,7 +141,8 @@ pub record IsFirstPart (asked : ModprobeWords) (l : Loading) (ss : List ShownIma
 
 -- What modprobe did over files and outputs with these known contents: it left new and answered this
 -- status.
-pub record LoadsBind (asked : ModprobeWords) (l : Loading) (shown : Shown) (old new : World) (status : ℕ) : Type 0 where
+pub record LoadsBind (asked : ModprobeWords) (l : Loading) (shown : Shown) (old new : World)
+    (status : ℕ) : Type 0 where
   -- the listed modules, oldest first, are loaded: each is all of a valid file, the one at the first
   -- path of its dependency line
   pub listed : List Module
@@ -142,7 +158,9 @@ pub record LoadsBind (asked : ModprobeWords) (l : Loading) (shown : Shown) (old 
   -- the status is the one of these loads, and never 2. Their images are put, the lines of the plan
   -- and of the loads are printed, a refusal has its line on err, and all else is as it was. Or a
   -- first part of this was done, because a call on files or outputs failed, or memory ran out
-  pub call : CameTo loads.status (told_after asked l (images_shown asked loads.went) loads.err_line shown) (IsFirstPart asked l (images_shown asked loads.went) shown) old new status
+  pub call : CameTo loads.status
+      (told_after asked l (images_shown asked loads.went) loads.err_line shown)
+      (IsFirstPart asked l (images_shown asked loads.went) shown) old new status
 
 -- The headline, of modprobe with these words after its name, over files and outputs with known
 -- contents.

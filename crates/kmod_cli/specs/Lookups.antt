@@ -29,7 +29,8 @@ abbrev pub PrintsOutcome : Outcome (List ℕ) → Shown → World → World → 
 PrintsOutcome (value text) shown old new status =
     CameTo 0 (record shown { out = shown.out ++ text }) (IsPrintedPart text shown) old new status
 PrintsOutcome (end e) shown old new status =
-    CameTo (end_status e) (record shown { err = shown.err ++ end_line e }) (IsPrintedPart [] shown) old new status
+    CameTo (end_status e) (record shown { err = shown.err ++ end_line e }) (IsPrintedPart [] shown)
+    old new status
 
 -- The built-in modules that state an alias which matches a name, by a modules.builtin.modinfo: each
 -- once, in the order in which modules are first seen there. A name without a normal form has none.
@@ -39,7 +40,8 @@ built_in_matching info (Some normal) = modules_matching info normal
 
 -- A depmod over files and outputs with these known contents was asked for both files, replaced its
 -- files, and answered status 0.
-pub record IsExtraDone (words : List (List ℕ)) (asked : DepmodWords) (shown : Shown) (old new : World) : Type 0 where
+pub record IsExtraDone (words : List (List ℕ)) (asked : DepmodWords) (shown : Shown)
+    (old new : World) : Type 0 where
   pub tells : Tells old shown
   pub words_ask : depmod_request words ≡ Some asked
   pub extra : asked.extra ≡ true
@@ -47,18 +49,28 @@ pub record IsExtraDone (words : List (List ℕ)) (asked : DepmodWords) (shown : 
   pub call : Extra words old new 0
 
 -- What a call with these words does over the files that it left.
-pub record AnswersLookups (asked : DepmodWords) (words : List (List ℕ)) (held told : Shown) (old new : World) (status : ℕ) : Type 0 where
+pub record AnswersLookups (asked : DepmodWords) (words : List (List ℕ)) (held told : Shown)
+    (old new : World) (status : ℕ) : Type 0 where
   pub left : LeavesExtra asked held.files told.files
   -- `builtin-alias` of that folder prints a line for each built-in module with a matching alias;
   -- exactly if there is none, the name is reported as not found
-  pub aliases : (rest : List (List ℕ)) (wanted : BuiltinAliasWords) → words ≡ codes "builtin-alias" ∷ rest → builtin_alias_request rest ≡ Some wanted → modules_folder wanted.dirname wanted.version ≡ target_of_request asked → PrintsOutcome (unless_none (normal_or_itself wanted.name) (built_in_matching left.info (normal_alias wanted.name))) told old new status
+  pub aliases : (rest : List (List ℕ)) (wanted : BuiltinAliasWords)
+      → words ≡ codes "builtin-alias" ∷ rest → builtin_alias_request rest ≡ Some wanted
+      → modules_folder wanted.dirname wanted.version ≡ target_of_request asked
+      → PrintsOutcome
+      (unless_none (normal_or_itself wanted.name)
+      (built_in_matching left.info (normal_alias wanted.name))) told old new status
   -- `static-nodes` of that folder prints the lines of the nodes of the tree's modules
-  pub nodes : (rest : List (List ℕ)) (wanted : StaticNodesWords) → words ≡ codes "static-nodes" ∷ rest → static_nodes_request rest ≡ Some wanted → modules_folder wanted.dirname wanted.version ≡ target_of_request asked → PrintsOutcome (value (lines_text (nodes_of left.tree))) told old new status
+  pub nodes : (rest : List (List ℕ)) (wanted : StaticNodesWords)
+      → words ≡ codes "static-nodes" ∷ rest → static_nodes_request rest ≡ Some wanted
+      → modules_folder wanted.dirname wanted.version ≡ target_of_request asked
+      → PrintsOutcome (value (lines_text (nodes_of left.tree))) told old new status
 
 -- Where the files of the second call are those that the first one left, so it answers.
 abbrev pub LookupsMeet : Type 0
 LookupsMeet =
-    (first second : List (List ℕ)) (asked : DepmodWords) (shown told : Shown) (old new later last : World) (status : ℕ)
+    (first second : List (List ℕ)) (asked : DepmodWords) (shown told : Shown)
+    (old new later last : World) (status : ℕ)
     → IsExtraDone first asked shown old new
     → new.files.contents ≡ Some told.files
     → Tells later told

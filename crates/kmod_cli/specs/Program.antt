@@ -5,7 +5,8 @@ use Rattle.std.specs.Str.{bytes_eq}
 use Rattle.km_course.specs.Course.{Stage, ends}
 use Rattle.km_course.specs.declared.end.End.TheVariants.{NotUnderstood}
 use Rattle.kmod_cli.specs.declared.command.Command.{Command}
-use Rattle.kmod_cli.specs.declared.command.Command.TheVariants.{Depmod, Modinfo, Modprobe, Trial, StaticNodes, BuiltinAlias}
+use Rattle.kmod_cli.specs.declared.command.Command.TheVariants.{Depmod, Modinfo, Modprobe, Trial}
+use Rattle.kmod_cli.specs.declared.command.Command.TheVariants.{StaticNodes, BuiltinAlias}
 use Rattle.command_builtin_alias.specs.BuiltinAlias.{builtin_alias_course}
 use Rattle.command_depmod.specs.Depmod.{depmod_course}
 use Rattle.command_modinfo.specs.Modinfo.{modinfo_course}

@@ -7,7 +7,8 @@ use Rattle.clap.specs.declared.builder.value_parser.ValueParser.TheVariants.{Non
 
 -- A flag: `-l` by its letter, if it has one, or `--name`.
 abbrev pub flag : Text → Text → Rule
-flag letter name = record (new_rule name) { short = slice_get letter 0; long = Some name; action = Some SetTrue }
+flag letter name =
+    record (new_rule name) { short = slice_get letter 0; long = Some name; action = Some SetTrue }
 
 -- What has a value, which isn't empty.
 abbrev pub with_value : Text → Rule
@@ -37,6 +38,8 @@ words name = required (record (with_value name) { action = Some Append })
 -- name of a program before the words.
 abbrev pub command : Text → List Rule → App
 command name rules = record {
-  top = record (new_app name).top { rules = rules; no_binary_name = true; disable_help_flag = true };
+  top
+      = record (new_app name).top
+      { rules = rules; no_binary_name = true; disable_help_flag = true };
   subs = [];
 }

@@ -1,5 +1,6 @@
 -- What the words of `depmod` ask for. depmod(8).
-use Rattle.std.specs.Prelude.{◌&&◌, not, Bool, List, [], ◌∷◌, Option, Some, None, is_some, if◌then◌else◌, option_and_then, unwrap_or, codes}
+use Rattle.std.specs.Prelude.{◌&&◌, not, Bool, List, [], ◌∷◌, Option, Some, None, is_some}
+use Rattle.std.specs.Prelude.{if◌then◌else◌, option_and_then, unwrap_or, codes}
 use Rattle.clap.specs.Words.{App, Row, Text}
 use Rattle.kmod_words.specs.Arguments.{command, flag, valued, word}
 use Rattle.kmod_words.specs.Understood.{understood, is_given, value_of, is_version}
@@ -39,7 +40,8 @@ depmod_of rows version =
 
 -- Whether both files of the kernel are given, a System.map and a Module.symvers.
 abbrev pub has_two_kernels : List Row → Bool
-has_two_kernels rows = is_some (value_of (codes "filesyms") rows) && is_some (value_of (codes "symvers") rows)
+has_two_kernels rows =
+    is_some (value_of (codes "filesyms") rows) && is_some (value_of (codes "symvers") rows)
 
 -- What the matches ask for: not a System.map and a Module.symvers both, and a version without `/`.
 unfoldable pub depmod_asked : List Row → Option DepmodWords

@@ -1,7 +1,8 @@
 -- The options that only some modes of `modprobe` have. modprobe(8).
 use Rattle.std.specs.Prelude.{ℕ, ◌&&◌, ◌||◌, Bool, List, Option, Some, None, T, is_some, not}
 use Rattle.kmod_words.specs.declared.modprobe.Mode.{Mode}
-use Rattle.kmod_words.specs.declared.modprobe.Mode.TheVariants.{Load, DryRun, ShowDepends, ResolveAlias, Remove}
+use Rattle.kmod_words.specs.declared.modprobe.Mode.TheVariants.{Load, DryRun, ShowDepends}
+use Rattle.kmod_words.specs.declared.modprobe.Mode.TheVariants.{ResolveAlias, Remove}
 
 -- Whether a mode goes with these: what `--system-map` and `--image` name, and whether `--params` is
 -- given. A load and a removal need the addresses of a System.map, `--params` is for a load, and a

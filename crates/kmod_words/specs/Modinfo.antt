@@ -1,5 +1,6 @@
 -- What the words of `modinfo` ask for. modinfo(8).
-use Rattle.std.specs.Prelude.{not, List, [], ◌∷◌, ◌++◌, Bool, Option, Some, None, is_some, if◌then◌else◌, option_and_then, unwrap_or, codes}
+use Rattle.std.specs.Prelude.{not, List, [], ◌∷◌, ◌++◌, Bool, Option, Some, None, is_some}
+use Rattle.std.specs.Prelude.{if◌then◌else◌, option_and_then, unwrap_or, codes}
 use Rattle.std.specs.Option.{option_map_or, option_to_list}
 use Rattle.clap.specs.Words.{App, Row, Text}
 use Rattle.kmod_words.specs.Arguments.{command, flag, valued, words}
@@ -45,7 +46,8 @@ single (key ∷ other ∷ keys) = None
 -- Whether the words are names and the version is one, or the words are paths and there is no root.
 abbrev pub is_by_name_or_path : List Row → Bool
 is_by_name_or_path rows =
-    option_map_or is_version (value_of (codes "set-version") rows) (not (is_some (value_of (codes "basedir") rows)))
+    option_map_or is_version (value_of (codes "set-version") rows)
+    (not (is_some (value_of (codes "basedir") rows)))
 
 -- What is asked for of this key.
 abbrev pub modinfo_of : List Row → Option Text → ModinfoWords

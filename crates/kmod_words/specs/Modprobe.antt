@@ -1,5 +1,6 @@
 -- What the words of `modprobe` ask for. modprobe(8).
-use Rattle.std.specs.Prelude.{List, [], ◌∷◌, Bool, true, false, Option, Some, None, T, if◌then◌else◌, option_and_then, unwrap_or, codes}
+use Rattle.std.specs.Prelude.{List, [], ◌∷◌, Bool, true, false, Option, Some, None, T}
+use Rattle.std.specs.Prelude.{if◌then◌else◌, option_and_then, unwrap_or, codes}
 use Rattle.clap.specs.Words.{App, Row, Text}
 use Rattle.kmod_words.specs.Arguments.{command, flag, required, valued, words}
 use Rattle.kmod_words.specs.Modes.{goes_with}
@@ -7,7 +8,8 @@ use Rattle.kmod_words.specs.Numbers.{region_or_usual}
 use Rattle.kmod_words.specs.Understood.{understood, is_given, value_of, words_of, is_version}
 use Rattle.kmod_words.specs.declared.modprobe_request.Choice.{Choice}
 use Rattle.kmod_words.specs.declared.modprobe.Mode.{Mode}
-use Rattle.kmod_words.specs.declared.modprobe.Mode.TheVariants.{Load, DryRun, ShowDepends, ResolveAlias, Remove}
+use Rattle.kmod_words.specs.declared.modprobe.Mode.TheVariants.{Load, DryRun, ShowDepends}
+use Rattle.kmod_words.specs.declared.modprobe.Mode.TheVariants.{ResolveAlias, Remove}
 use Rattle.kmod_words.specs.declared.modprobe.ModprobeWords.{ModprobeWords}
 use Rattle.module_region.specs.declared.region.Region.{Region}
 
@@ -45,14 +47,19 @@ mode_by_flags dry_run false false true = Some (Remove dry_run)
 mode_by_flags _ _ _ _ = None
 
 abbrev pub mode_asked : List Row → Option Mode
-mode_asked rows = mode_by_flags (is_given (codes "dry-run") rows) (is_given (codes "show-depends") rows) (is_given (codes "resolve-alias") rows) (is_given (codes "remove") rows)
+mode_asked rows =
+    mode_by_flags (is_given (codes "dry-run") rows) (is_given (codes "show-depends") rows)
+    (is_given (codes "resolve-alias") rows) (is_given (codes "remove") rows)
 
 -- Whether the options that only some modes have go with a mode.
 abbrev pub options_go : List Row → Mode → Bool
-options_go rows mode = goes_with mode (value_of (codes "system-map") rows) (value_of (codes "image") rows) (is_given (codes "params") rows)
+options_go rows mode =
+    goes_with mode (value_of (codes "system-map") rows) (value_of (codes "image") rows)
+    (is_given (codes "params") rows)
 
 -- What is asked for in this mode, of this version and in this region.
-abbrev pub modprobe_of : (rows : List Row) (mode : Mode) → Text → Region → T (options_go rows mode) → ModprobeWords
+abbrev pub modprobe_of : (rows : List Row) (mode : Mode) → Text → Region → T (options_go rows mode)
+    → ModprobeWords
 modprobe_of rows mode version region fits = record {
   mode = mode;
   all = is_given (codes "all") rows;
@@ -75,7 +82,8 @@ modprobe_of rows mode version region fits = record {
 
 -- The region of addresses in which modules are placed.
 abbrev pub region_asked : ModprobeWords → Region
-region_asked asked = record { base = asked.region_base; size = asked.region_size; pages = asked.pages }
+region_asked asked =
+    record { base = asked.region_base; size = asked.region_size; pages = asked.pages }
 
 -- The mode, the version and the region that the matches choose: a version without `/`, and a region
 -- of modules.
@@ -94,7 +102,10 @@ if_passed false make = None
 
 -- What the matches ask for: a mode with which the other options go.
 abbrev pub modprobe_asked : List Row → Option ModprobeWords
-modprobe_asked rows = option_and_then (λ choice. if_passed (options_go rows choice.0) (modprobe_of rows choice.0 choice.1 choice.2)) (chosen rows)
+modprobe_asked rows =
+    option_and_then
+    (λ choice. if_passed (options_go rows choice.0)
+    (modprobe_of rows choice.0 choice.1 choice.2)) (chosen rows)
 
 -- what a choice of the code says
 abbrev pub choice_parts : Choice → Mode × Text × Region

@@ -3,7 +3,10 @@ use Rattle.std.specs.Prelude.{◌∷◌, []}
 use Rattle.clap.specs.Words.{Rule}
 use Rattle.kmod_words.specs.Arguments.{flag, lettered, required, valued, word, words}
 use Rattle.kmod_words.specs.declared.arguments.Argument.{Argument}
-use Rattle.kmod_words.specs.declared.arguments.Argument.TheVariants.{Flag, FlagByName, Valued, ValuedByName, ValuedByLetter, RequiredByLetter, Required, Word, Words}
+use Rattle.kmod_words.specs.declared.arguments.Argument.TheVariants.{Flag, FlagByName, Valued}
+use Rattle.kmod_words.specs.declared.arguments.Argument.TheVariants.{ValuedByName, ValuedByLetter}
+use Rattle.kmod_words.specs.declared.arguments.Argument.TheVariants.{RequiredByLetter, Required}
+use Rattle.kmod_words.specs.declared.arguments.Argument.TheVariants.{Word, Words}
 
 abbrev pub rule_for : Argument → Rule
 rule_for (Flag letter name) = flag (letter ∷ []) name.now

@@ -1,5 +1,6 @@
 -- What the words of `trial` ask for, this project's own command.
-use Rattle.std.specs.Prelude.{ℕ, ◌&&◌, List, [], ◌∷◌, Option, Some, None, if◌then◌else◌, option_and_then, codes, nat_le}
+use Rattle.std.specs.Prelude.{ℕ, ◌&&◌, List, [], ◌∷◌, Option, Some, None, if◌then◌else◌}
+use Rattle.std.specs.Prelude.{option_and_then, codes, nat_le}
 use Rattle.clap.specs.Words.{App, Row, Text}
 use Rattle.kmod_words.specs.Arguments.{command, word}
 use Rattle.kmod_words.specs.Numbers.{decimal}
@@ -18,7 +19,9 @@ number_of most name rows = option_and_then (decimal most) (value_of name rows)
 -- digits.
 unfoldable pub trial_asked : List Row → Option TrialWords
 trial_asked rows = option_and_then (λ seed. option_and_then (λ count.
-    if nat_le 1 count && nat_le count 2000 then Some (record { seed = seed; count = count }) else None)
+    if nat_le 1 count && nat_le count 2000
+    then Some (record { seed = seed; count = count })
+    else None)
     (number_of 4 (codes "count") rows))
     (number_of 20 (codes "seed") rows)
 

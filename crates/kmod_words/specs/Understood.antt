@@ -1,6 +1,7 @@
 -- What `clap` makes of words: the options and words that a command states, as getopt_long(3) has
 -- them.
-use Rattle.std.specs.Prelude.{◌==◌, Bool, true, false, not, List, [], ◌∷◌, Option, Some, None, find, option_and_then, unwrap_or}
+use Rattle.std.specs.Prelude.{◌==◌, Bool, true, false, not, List, [], ◌∷◌, Option, Some, None, find}
+use Rattle.std.specs.Prelude.{option_and_then, unwrap_or}
 use Rattle.std.specs.List.{list_any}
 use Rattle.std.specs.Str.{bytes_eq}
 use Rattle.clap.specs.Words.{App, Kinds, Row, Text, all_of, fault_of, first_of, matches_of}
@@ -24,7 +25,10 @@ is_from_words _ = false
 
 -- Whether a flag is among the words.
 unfoldable pub is_given : Text → List Row → Bool
-is_given name rows = is_from_words (option_and_then (λ (row : Row). row.source) (find (λ (row : Row). bytes_eq row.id name) rows))
+is_given name rows =
+    is_from_words
+    (option_and_then (λ (row : Row). row.source)
+    (find (λ (row : Row). bytes_eq row.id name) rows))
 
 -- The value of an option, or the one word of a name.
 unfoldable pub value_of : Text → List Row → Option Text

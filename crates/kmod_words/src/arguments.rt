@@ -75,7 +75,8 @@ pub(crate) fn command<'a>(
     name: &'a str,
     arguments: &[Argument],
 ) -> Result<Command<'a>, AllocError>
-    ensures { IfOk result (λ command. app_of command ≡ command_spec name.entry.now (map rule_for arguments.now)) }
+    ensures { IfOk result
+        (λ command. app_of command ≡ command_spec name.entry.now (map rule_for arguments.now)) }
 {
     let mut command = Command::new(alloc, name)
         .no_binary_name(true)

@@ -84,7 +84,8 @@ fn words_for(
     matches: &ArgMatches<'_>,
     version: &str,
 ) -> Result<DepmodWords, AllocError>
-    ensures { IfOk result (λ words. words ≡ depmod_of (rows_of (found_of matches.now)) version.now) }
+    ensures { IfOk result
+        (λ words. words ≡ depmod_of (rows_of (found_of matches.now)) version.now) }
 {
     let basedir: PathText = bytes_or(alloc, matches, "basedir", b"/")?;
     let outdir = bytes_or(alloc, matches, "outdir", basedir.as_bytes())?;

@@ -2,7 +2,8 @@
 ghost use Rattle.std.specs.Prelude.{◌≡◌, ◌==◌, true, IfOk, map, option_map, unwrap_or};
 ghost use Rattle.std.specs.List.{list_any};
 ghost use Rattle.clap.specs.Words.{app_of, found_of, is_simple_and_free, rows_of};
-ghost use Rattle.kmod_words.specs.Understood.{understood, is_given, is_from_words, value_of, words_of, is_version};
+ghost use Rattle.kmod_words.specs.Understood.{understood, is_given, is_from_words, value_of};
+ghost use Rattle.kmod_words.specs.Understood.{words_of, is_version};
 
 use clap::error::ErrorKind;
 use clap::parser::ValueSource;
@@ -58,7 +59,8 @@ fn is_from_words(source: Option<ValueSource>) -> bool
 
 /// Returns the value of an option, or the one word of a name.
 pub(crate) fn value_of<'a>(matches: &ArgMatches<'a>, name: &str) -> Option<&'a str>
-    ensures { option_map (λ value. value.now) result ≡ value_of name.now (rows_of (found_of matches.now)) }
+    ensures { option_map (λ value. value.now) result
+        ≡ value_of name.now (rows_of (found_of matches.now)) }
 {
     matches.get_str(name)
 }
@@ -84,7 +86,9 @@ pub(crate) fn bytes_or<K>(
     name: &str,
     other: &[u8],
 ) -> Result<Bytes<K>, AllocError>
-    ensures { IfOk result (λ bytes. bytes ≡ unwrap_or (value_of name.now (rows_of (found_of matches.now))) other.now) }
+    ensures { IfOk result
+        (λ bytes. bytes
+        ≡ unwrap_or (value_of name.now (rows_of (found_of matches.now))) other.now) }
 {
     match value_of(matches, name) {
         Some(value) => Bytes::from_slice(alloc, value.as_bytes()),

@@ -1,6 +1,7 @@
 ghost use Rattle.std.specs.Prelude.{◌≡◌, ◌++◌, IfOk, OnOk, Option, option_map, map};
 ghost use Rattle.clap.specs.Words.{found_of, rows_of};
-ghost use Rattle.kmod_words.specs.Modinfo.{modinfo_request, modinfo_asked, modinfo_of, keys_asked, key_by_flag, single, is_by_name_or_path};
+ghost use Rattle.kmod_words.specs.Modinfo.{modinfo_request, modinfo_asked, modinfo_of, keys_asked};
+ghost use Rattle.kmod_words.specs.Modinfo.{key_by_flag, single, is_by_name_or_path};
 
 use crate::arguments::{Argument, command};
 use crate::matches::{
@@ -69,7 +70,8 @@ fn asked(alloc: Global, matches: &ArgMatches<'_>) -> Result<Option<ModinfoWords>
 // Returns all keys that the matches ask for.
 #[tactic(auto, unfolding(crate::specs::Modinfo::keys_asked))]
 fn keys_asked<'a>(alloc: Global, matches: &ArgMatches<'a>) -> Result<Vec<&'a str>, AllocError>
-    ensures { IfOk result (λ keys. map (λ key. key.now) keys.items ≡ keys_asked (rows_of (found_of matches.now))) }
+    ensures { IfOk result
+        (λ keys. map (λ key. key.now) keys.items ≡ keys_asked (rows_of (found_of matches.now))) }
 {
     let mut keys = Vec::new(alloc);
     if let Some(key) = value_of(matches, "field") {
@@ -91,7 +93,8 @@ fn push_key<'a>(
     key: &'a str,
 ) -> Result<(), AllocError>
     ensures ok { OnOk result (map (λ k. k.now) keys.new.items
-        ≡ map (λ k. k.now) keys.old.items ++ key_by_flag (rows_of (found_of matches.now)) flag.now key.now) }
+        ≡ map (λ k. k.now) keys.old.items
+        ++ key_by_flag (rows_of (found_of matches.now)) flag.now key.now) }
 {
     if is_given(matches, flag) {
         keys.push(key)?;
@@ -101,7 +104,8 @@ fn push_key<'a>(
 
 // Returns the key, if there is one, and nothing if there are two.
 fn single<'a>(keys: &[&'a str]) -> Option<Option<&'a str>>
-    ensures { option_map (option_map (λ key. key.now)) result ≡ single (map (λ key. key.now) keys.now) }
+    ensures { option_map (option_map (λ key. key.now)) result
+        ≡ single (map (λ key. key.now) keys.now) }
 {
     match keys {
         [] => Some(None),

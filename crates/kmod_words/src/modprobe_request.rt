@@ -3,7 +3,9 @@ ghost use Rattle.std.specs.Prelude.{◌≡◌, IfOk, Option, T, codes, is_some, 
 ghost use Rattle.clap.specs.Words.{found_of, rows_of};
 ghost use Rattle.kmod_words.specs.Understood.{value_of};
 ghost use Rattle.kmod_words.specs.Modes.{given_map};
-ghost use Rattle.kmod_words.specs.Modprobe.{modprobe_request, modprobe_asked, modprobe_of, mode_asked, mode_by_flags, options_go, if_passed, chosen, choice_parts, region_asked};
+ghost use Rattle.kmod_words.specs.Modprobe.{modprobe_request, modprobe_asked, modprobe_of};
+ghost use Rattle.kmod_words.specs.Modprobe.{mode_asked, mode_by_flags, options_go, if_passed};
+ghost use Rattle.kmod_words.specs.Modprobe.{chosen, choice_parts, region_asked};
 
 use crate::arguments::{Argument, command};
 use crate::matches::{
@@ -87,7 +89,8 @@ fn asked_by(
     matches: &ArgMatches<'_>,
     choice: &Choice<'_>,
 ) -> Result<Option<ModprobeWords>, AllocError>
-    ensures { IfOk result (λ asked. asked ≡ if_passed (options_go (rows_of (found_of matches.now)) choice.now.mode)
+    ensures { IfOk result (λ asked. asked
+        ≡ if_passed (options_go (rows_of (found_of matches.now)) choice.now.mode)
         (modprobe_of (rows_of (found_of matches.now)) choice.now.mode choice.now.version.now choice.now.region)) }
 {
     if options_go(matches, choice.mode) {
@@ -175,8 +178,11 @@ fn words_for(
     choice: &Choice<'_>,
 ) -> Result<ModprobeWords, AllocError>
     requires fits { T (options_go (rows_of (found_of matches.now)) choice.now.mode) }
-    ensures { IfOk result (λ words. (fits : T (options_go (rows_of (found_of matches.now)) choice.now.mode))
-        → words ≡ modprobe_of (rows_of (found_of matches.now)) choice.now.mode choice.now.version.now choice.now.region fits) }
+    ensures { IfOk result (λ words.
+        (fits : T (options_go (rows_of (found_of matches.now)) choice.now.mode))
+        → words
+        ≡ modprobe_of (rows_of (found_of matches.now)) choice.now.mode choice.now.version.now
+        choice.now.region fits) }
 {
     let version = Name::from_slice(alloc, choice.version.as_bytes())?;
     let words = words_of(alloc, matches, "words")?;
@@ -213,8 +219,10 @@ struct PlanPaths {
 fn plan_paths(alloc: Global, matches: &ArgMatches<'_>) -> Result<PlanPaths, AllocError>
     ensures dirname { IfOk result (λ paths. paths.dirname
         ≡ unwrap_or (value_of (codes "dirname") (rows_of (found_of matches.now))) (codes "/")) }
-    ensures config { IfOk result (λ paths. paths.config ≡ value_of (codes "config") (rows_of (found_of matches.now))) }
-    ensures loaded { IfOk result (λ paths. paths.loaded ≡ value_of (codes "loaded") (rows_of (found_of matches.now))) }
+    ensures config { IfOk result
+        (λ paths. paths.config ≡ value_of (codes "config") (rows_of (found_of matches.now))) }
+    ensures loaded { IfOk result
+        (λ paths. paths.loaded ≡ value_of (codes "loaded") (rows_of (found_of matches.now))) }
 {
     let dirname = bytes_or(alloc, matches, "dirname", b"/")?;
     let config = bytes_of(alloc, matches, "config")?;
@@ -236,9 +244,13 @@ struct LoadPaths {
 
 // Returns the paths that only a load or a removal needs.
 fn load_paths(alloc: Global, matches: &ArgMatches<'_>) -> Result<LoadPaths, AllocError>
-    ensures system_map { IfOk result (λ paths. paths.system_map ≡ value_of (codes "system-map") (rows_of (found_of matches.now))) }
-    ensures symvers { IfOk result (λ paths. paths.symvers ≡ value_of (codes "symvers") (rows_of (found_of matches.now))) }
-    ensures image { IfOk result (λ paths. paths.image ≡ value_of (codes "image") (rows_of (found_of matches.now))) }
+    ensures system_map { IfOk result
+        (λ paths. paths.system_map
+        ≡ value_of (codes "system-map") (rows_of (found_of matches.now))) }
+    ensures symvers { IfOk result
+        (λ paths. paths.symvers ≡ value_of (codes "symvers") (rows_of (found_of matches.now))) }
+    ensures image { IfOk result
+        (λ paths. paths.image ≡ value_of (codes "image") (rows_of (found_of matches.now))) }
 {
     let system_map = bytes_of(alloc, matches, "system-map")?;
     let symvers = bytes_of(alloc, matches, "symvers")?;

@@ -24,7 +24,8 @@ pub struct TrialWords {
 /// understood.
 pub fn read_trial(alloc: Global, words: &[Word]) -> Result<Option<TrialWords>, AllocError>
     ensures request { IfOk result (λ asked. asked ≡ trial_request words.now) }
-    ensures range { IfOk result (λ asked. IfSome asked (λ words. (1 ≤ words.count) × (words.count ≤ 2000))) }
+    ensures range { IfOk result
+        (λ asked. IfSome asked (λ words. (1 ≤ words.count) × (words.count ≤ 2000))) }
 {
     let command = command(alloc, "trial", &ARGUMENTS)?;
     let texts = texts_of(alloc, words)?;

@@ -14,7 +14,8 @@ use Rattle.builtin_index.specs.Aliases.{is_alias, modules_of, alias_map}
 
 -- Whether a field states an alias whose normal form, as a pattern, matches a text.
 abbrev pub is_matching : List ℕ → BuiltinField → Bool
-is_matching text f = is_alias f && option_map_or (λ key. is_match key text) (normal_alias f.value) false
+is_matching text f =
+    is_alias f && option_map_or (λ key. is_match key text) (normal_alias f.value) false
 
 -- Whether the module of a name states a matching alias.
 abbrev pub states_match : List BuiltinField → List ℕ → List ℕ → Bool
@@ -23,10 +24,12 @@ states_match fields text name = list_any (λ f. is_matching text f && bytes_eq n
 -- The built-in modules that state a matching alias, each once, in the order modules are first seen
 -- in.
 abbrev pub modules_matching : List ℕ → List ℕ → List (List ℕ)
-modules_matching bytes text = filter (states_match (fields_of bytes) text) (modules_of (fields_of bytes))
+modules_matching bytes text =
+    filter (states_match (fields_of bytes) text) (modules_of (fields_of bytes))
 
 -- In any index that holds the map of the built-in aliases, the values of a text name exactly these
 -- modules.
 abbrev pub AreFound : Type 0
 AreFound =
-    (b bytes text : List ℕ) → Holds b (alias_map bytes) → first_seen (map (λ v. v.1) (wild_values (contents b) text)) ≡ modules_matching bytes text
+    (b bytes text : List ℕ) → Holds b (alias_map bytes)
+    → first_seen (map (λ v. v.1) (wild_values (contents b) text)) ≡ modules_matching bytes text

@@ -1,5 +1,6 @@
 -- A tree of two modules, one of them using the other.
-use Rattle.std.proofs.Common.{◌≡◌, ◌∙◌, ℕ, zero, suc, true, false, List, [], ◌∷◌, ◌++◌, length, Some, refl, sym, ap, subst, inl, inr, arith, codes}
+use Rattle.std.proofs.Common.{◌≡◌, ◌∙◌, ℕ, zero, suc, true, false, List, [], ◌∷◌, ◌++◌, length}
+use Rattle.std.proofs.Common.{Some, refl, sym, ap, subst, inl, inr, arith, codes}
 use Rattle.std.specs.Prelude.{AllPairs, slice_get}
 use Rattle.std.specs.List.{IsDistinct}
 use Rattle.std.specs.Str.{bytes_eq}
@@ -62,11 +63,14 @@ lines = record { paths = paths; named = named }
     only zero inside = inl refl
     only (suc j) inside = let low = (range-has 0 1 (suc j) inside).1 in absurd (omega (arith, low))
 
-    named : (i j : ℕ) (m : Module) → slice_get (modules_of two) i ≡ Some m → has (closure (uses_at (modules_of two) bare) (below (length (modules_of two))) i) j ≡ true → Member (name_at (modules_of two) j) (two_lines.line m.face.name)
+    named : (i j : ℕ) (m : Module) → slice_get (modules_of two) i ≡ Some m
+        → has (closure (uses_at (modules_of two) bare) (below (length (modules_of two))) i) j ≡ true
+        → Member (name_at (modules_of two) j) (two_lines.line m.face.name)
     named zero j m at inside = absurd (true≢false (sym inside ∙ unused j))
     named (suc zero) j m at inside =
         let is : module_of taker ≡ m = cc in
-        subst (λ (m : Module). Member (name_at (modules_of two) j) (two_lines.line m.face.name)) is (only j (sym (used j) ∙ inside))
+        subst (λ (m : Module). Member (name_at (modules_of two) j) (two_lines.line m.face.name)) is
+        (only j (sym (used j) ∙ inside))
     named (suc (suc i)) j m at inside = absurd cc
 
 none-unmet : unmet (modules_of two) bare ≡ []
@@ -83,7 +87,9 @@ closed = record {
   clear = λ x in'. refl;
 }
   where
-    first-two : (front : List (List ℕ)) (x : List ℕ) (back : List (List ℕ)) → codes "p" ∷ codes "m" ∷ [] ≡ front ++ x ∷ back → (y : List ℕ) → Member y (two_lines.line x) → is_among front y ≡ true
+    first-two : (front : List (List ℕ)) (x : List ℕ) (back : List (List ℕ))
+        → codes "p" ∷ codes "m" ∷ [] ≡ front ++ x ∷ back → (y : List ℕ)
+        → Member y (two_lines.line x) → is_among front y ≡ true
     first-two [] x back split y in' =
         let is : codes "p" ≡ x = cc in
         absurd (subst (λ n. Member y (two_lines.line n)) (sym is) in')
@@ -92,16 +98,24 @@ closed = record {
         let own : codes "p" ≡ f = cc in
         among f y own (subst (λ n. Member y (two_lines.line n)) (sym is) in')
       where
-        among : (f y : List ℕ) → codes "p" ≡ f → Member y (codes "p" ∷ []) → is_among (f ∷ []) y ≡ true
-        among f y own (inl same) = subst (λ n. is_among (n ∷ []) y ≡ true) own (subst (λ n. is_among (codes "p" ∷ []) n ≡ true) same refl)
+        among : (f y : List ℕ) → codes "p" ≡ f → Member y (codes "p" ∷ [])
+            → is_among (f ∷ []) y ≡ true
+        among f y own (inl same)
+            = subst (λ n. is_among (n ∷ []) y ≡ true) own
+            (subst (λ n. is_among (codes "p" ∷ []) n ≡ true) same refl)
         among f y own (inr none) = absurd none
     first-two (f ∷ g ∷ front) x back split y in' = absurd (longer f g front x back split)
       where
-        longer : (f g : List ℕ) (front : List (List ℕ)) (x : List ℕ) (back : List (List ℕ)) → codes "p" ∷ codes "m" ∷ [] ≡ f ∷ g ∷ front ++ x ∷ back → ⊥
+        longer : (f g : List ℕ) (front : List (List ℕ)) (x : List ℕ) (back : List (List ℕ))
+            → codes "p" ∷ codes "m" ∷ [] ≡ f ∷ g ∷ front ++ x ∷ back → ⊥
         longer f g [] x back split = let e : ◌≡◌ {A = List (List ℕ)} [] (x ∷ back) = cc in cc
-        longer f g (h ∷ front) x back split = let e : ◌≡◌ {A = List (List ℕ)} [] (h ∷ front ++ x ∷ back) = cc in cc
+        longer f g (h ∷ front) x back split
+            = let e : ◌≡◌ {A = List (List ℕ)} [] (h ∷ front ++ x ∷ back)
+            = cc in cc
 
-    behind : (before : List (List ℕ)) (x : List ℕ) (after : List (List ℕ)) → codes "p" ∷ codes "m" ∷ [] ≡ before ++ x ∷ after → (y : List ℕ) → Member y (two_lines.line x) → is_among ([] ++ before) y ≡ true
+    behind : (before : List (List ℕ)) (x : List ℕ) (after : List (List ℕ))
+        → codes "p" ∷ codes "m" ∷ [] ≡ before ++ x ∷ after → (y : List ℕ)
+        → Member y (two_lines.line x) → is_among ([] ++ before) y ≡ true
     behind before x after split y in' = first-two before x after split y in'
 
 pub two-are-closed : TwoAreClosed
@@ -110,8 +124,12 @@ two-are-closed kernel known none =
       record {
         known = known;
         names = names;
-        acyclic = subst (λ k. cycle (uses_at (modules_of two) k) (below 2) ≡ []) (sym same) none-cycle;
+        acyclic
+            = subst (λ k. cycle (uses_at (modules_of two) k) (below 2) ≡ []) (sym same) none-cycle;
         lines = subst (λ k. AreLinesOf (modules_of two) k two_lines) (sym same) lines;
       },
-      subst (λ k. AreClosed two_lines (unmet (modules_of two) k) [] (codes "p" ∷ codes "m" ∷ [])) (sym same) (subst (λ ls. AreClosed two_lines ls [] (codes "p" ∷ codes "m" ∷ [])) (sym none-unmet) closed),
+      subst (λ k. AreClosed two_lines (unmet (modules_of two) k) [] (codes "p" ∷ codes "m" ∷ []))
+          (sym same)
+          (subst (λ ls. AreClosed two_lines ls [] (codes "p" ∷ codes "m" ∷ [])) (sym none-unmet)
+          closed),
     )

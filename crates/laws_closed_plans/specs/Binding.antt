@@ -1,5 +1,6 @@
 -- What loading a closed plan results in.
-use Rattle.std.specs.Prelude.{◌≡◌, ℕ, true, List, [], ◌∷◌, ◌++◌, length, map, AllPairs, IfSome, IfErr, IsOk, Ok}
+use Rattle.std.specs.Prelude.{◌≡◌, ℕ, true, List, [], ◌∷◌, ◌++◌, length, map, AllPairs, IfSome}
+use Rattle.std.specs.Prelude.{IfErr, IsOk, Ok}
 use Rattle.relation_order.specs.Sets.{below}
 use Rattle.relation_order.specs.Cycle.{cycle}
 use Rattle.module_facts.specs.declared.facts.Facts.{Facts}
@@ -45,14 +46,16 @@ IsLoaded kernel region ms machine = load_all (new_machine kernel region) ms ≡ 
 
 -- A plan of modules of a tree, after listed ones, for a machine whose kernel has the table that was
 -- indexed, with addresses.
-pub record IsPlanned (tree : List Facts) (kernel : Kernel) (deps : Lines) (addressed : Kernel) (region : Region) (listed plan : List Module) : Type 0 where
+pub record IsPlanned (tree : List Facts) (kernel : Kernel) (deps : Lines) (addressed : Kernel)
+    (region : Region) (listed plan : List Module) : Type 0 where
   pub same_table : kernel_of addressed ≡ kernel_of kernel
   -- The listed modules are of the tree, and load one after the other, oldest first.
   pub listed_of : (m : Module) → Member m listed → Member m.facts tree
   pub listed_load : IsOk (load_all (new_machine addressed region) listed)
   -- The modules of the plan are of the tree, and the plan is closed over the listed ones.
   pub plan_of : (m : Module) → Member m plan → Member m.facts tree
-  pub closed : AreClosed deps (unmet (modules_of tree) (kernel_of kernel)) (names_of listed) (names_of plan)
+  pub closed : AreClosed deps (unmet (modules_of tree) (kernel_of kernel)) (names_of listed)
+      (names_of plan)
 
 -- Addresses that a System.map adds to a kernel's table change nothing of what is seen of it. So the
 -- indexed table is the machine's, if both are from one Module.symvers.
@@ -66,17 +69,21 @@ AddressesAreUnseen =
 -- A plan binds when it is loaded after listed modules.
 pub record Binds (kernel : Kernel) (region : Region) (listed plan : List Module) : Type 0 where
   -- If a module is refused at its turn, the region has no room for it, or a word doesn't fit.
-  pub refused : (before : List Module) (m : Module) (after : List Module) → plan ≡ before ++ m ∷ after → (machine : Machine) → IsLoaded kernel region (listed ++ before) machine → IfSome (refusal machine m) IsPlaceFault
+  pub refused : (before : List Module) (m : Module) (after : List Module)
+      → plan ≡ before ++ m ∷ after → (machine : Machine)
+      → IsLoaded kernel region (listed ++ before) machine → IfSome (refusal machine m) IsPlaceFault
   -- So the loads stop for nothing else.
   pub stopped : IfErr (load_all (new_machine kernel region) (listed ++ plan)) IsPlaceFault
   -- After each load the machine is sound: each strong need is bound to an export that was loaded
   -- before and agrees.
-  pub sound : (before after : List Module) → plan ≡ before ++ after → (machine : Machine) → IsLoaded kernel region (listed ++ before) machine → IsSound machine (listed ++ before)
+  pub sound : (before after : List Module) → plan ≡ before ++ after → (machine : Machine)
+      → IsLoaded kernel region (listed ++ before) machine → IsSound machine (listed ++ before)
 
 -- Closed plans bind.
 abbrev pub ClosedPlansBind : Type 0
 ClosedPlansBind =
-    (tree : List Facts) (kernel : Kernel) (deps : Lines) (addressed : Kernel) (region : Region) (listed plan : List Module)
+    (tree : List Facts) (kernel : Kernel) (deps : Lines) (addressed : Kernel) (region : Region)
+    (listed plan : List Module)
     → IsIndexed tree kernel deps
     → IsPlanned tree kernel deps addressed region listed plan
     → Binds addressed region listed plan

@@ -13,7 +13,8 @@ abbrev pub giver : Facts
 giver = record {
   path = codes "p.ko";
   name = codes "p";
-  exports = record { name = codes "x"; symbol = 1; crc = Some 1; gpl = true; space = codes "NS" } ∷ [];
+  exports
+      = record { name = codes "x"; symbol = 1; crc = Some 1; gpl = true; space = codes "NS" } ∷ [];
   needs = [];
   aliases = [];
   softdeps = [];
@@ -47,4 +48,6 @@ two_lines = record {
 abbrev pub TwoAreClosed : Type 0
 TwoAreClosed =
     (kernel : Kernel) → kernel.known ≡ true → kernel.exports ≡ []
-    → IsIndexed two kernel two_lines × AreClosed two_lines (unmet (modules_of two) (kernel_of kernel)) [] (codes "p" ∷ codes "m" ∷ [])
+    → IsIndexed two kernel two_lines
+    × AreClosed two_lines (unmet (modules_of two) (kernel_of kernel)) []
+    (codes "p" ∷ codes "m" ∷ [])

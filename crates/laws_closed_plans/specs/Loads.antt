@@ -7,7 +7,8 @@ use Rattle.model_loader.specs.Machine.{Machine}
 use Rattle.model_loader.specs.Step.{step}
 
 -- The next result, unless a load was refused.
-abbrev pub unless_refused : (Machine → Result Machine LoadFault) → Result Machine LoadFault → Result Machine LoadFault
+abbrev pub unless_refused : (Machine → Result Machine LoadFault) → Result Machine LoadFault
+    → Result Machine LoadFault
 unless_refused next (Ok machine) = next machine
 unless_refused next (Err fault) = Err fault
 
@@ -20,7 +21,8 @@ load_all machine (m ∷ ms) = unless_refused (λ next. load_all next ms) (step m
 abbrev pub LoadsFollow : Type 0
 LoadsFollow =
     (machine : Machine) (before after : List Module)
-    → load_all machine (before ++ after) ≡ unless_refused (λ next. load_all next after) (load_all machine before)
+    → load_all machine (before ++ after)
+    ≡ unless_refused (λ next. load_all next after) (load_all machine before)
 
 -- A refusal only for the place of a module: no gap of the region has room, or a word doesn't fit
 -- there.

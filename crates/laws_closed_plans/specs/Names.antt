@@ -6,11 +6,14 @@ use Rattle.std.specs.List.{list_any}
 use Rattle.std.specs.Str.{bytes_eq}
 use Rattle.km_names.specs.First.{first}
 use Rattle.symbol_binding.specs.Symbols.{Export, Face, Kernel}
-use Rattle.symbol_binding.specs.Provider.{Owner, ByKernel, ByModule, Provided, export_under, of_kernel, of_first, face_exports}
+use Rattle.symbol_binding.specs.Provider.{Owner, ByKernel, ByModule, Provided, export_under}
+use Rattle.symbol_binding.specs.Provider.{of_kernel, of_first, face_exports}
 use Rattle.symbol_binding.specs.Needs.{NeedTest, is_missing, is_hidden, is_other_version, is_barred}
 use Rattle.symbol_binding.specs.Unmet.{vmlinux}
 use Rattle.model_loader.specs.declared.fault.LoadFault.{LoadFault}
-use Rattle.model_loader.specs.declared.fault.LoadFault.TheVariants.{AlreadyLoaded, MissingSymbol, GplOnly, VersionDiffers, NotImported, ExportTaken}
+use Rattle.model_loader.specs.declared.fault.LoadFault.TheVariants.{AlreadyLoaded, MissingSymbol}
+use Rattle.model_loader.specs.declared.fault.LoadFault.TheVariants.{GplOnly, VersionDiffers}
+use Rattle.model_loader.specs.declared.fault.LoadFault.TheVariants.{NotImported, ExportTaken}
 use Rattle.model_loader.specs.Step.{fault_if}
 
 -- What is seen of the table of a machine: what a name is bound to if these modules are loaded,
@@ -28,13 +31,16 @@ owner_name ByKernel = vmlinux
 owner_name (ByModule m) = m.name
 
 -- The test that no need of a module fails the test of needs.
-abbrev pub need_fault : Kernel → List Face → Face → NeedTest → (List ℕ → LoadFault) → Option LoadFault
+abbrev pub need_fault : Kernel → List Face → Face → NeedTest → (List ℕ → LoadFault)
+    → Option LoadFault
 need_fault kernel loaded m test fault =
-    option_map (λ n. fault n.name) (find (λ n. test (export_under (seen_table kernel loaded n.name)) m n) m.needs)
+    option_map (λ n. fault n.name)
+    (find (λ n. test (export_under (seen_table kernel loaded n.name)) m n) m.needs)
 
 -- The test that the name of an export isn't bound yet.
 abbrev pub export_fault : Kernel → List Face → Export → Option LoadFault
-export_fault kernel loaded e = option_map (λ p. ExportTaken e.name (owner_name p.owner)) (seen_table kernel loaded e.name)
+export_fault kernel loaded e =
+    option_map (λ p. ExportTaken e.name (owner_name p.owner)) (seen_table kernel loaded e.name)
 
 -- The first of the six tests of its names that a module fails, if these modules are loaded, oldest
 -- first.

@@ -26,18 +26,22 @@ pub record IsStep (plan before : List Module) (m : Module) : Type 0 where
   pub split : plan ≡ before ++ m ∷ after
 
 -- A plan is closed over the listed modules.
-pub record IsClosed (tree : List Module) (kernel : Kernel) (listed plan : List Module) : Type 0 where
-  -- Its modules are of the tree.
-  pub of_tree : (m : Module) → Member m plan → Member m tree
-  -- They have distinct names, and none that is listed.
-  pub fresh : (before : List Module) (m : Module) → IsStep plan before m → is_named (faces_of (listed ++ before)) m.face.name ≡ false
-  -- What a module uses is listed, or comes before it.
-  pub behind : (before : List Module) (m : Module) → IsStep plan before m → (p : Module) → Member p (uses tree kernel m) → Member p (listed ++ before)
-  -- No double line has both sides among the plan, the listed modules and the kernel, and one of
-  -- them in the plan.
-  pub alone : list_any (collides (stands (listed ++ plan)) (is_at plan)) (unmet tree kernel) ≡ false
-  -- No other line belongs to a module of the plan.
-  pub clear : (m : Module) → Member m plan → list_any (belongs m.path) (unmet tree kernel) ≡ false
+pub record IsClosed (tree : List Module) (kernel : Kernel) (listed plan : List Module) : Type 0
+  where
+    -- Its modules are of the tree.
+    pub of_tree : (m : Module) → Member m plan → Member m tree
+    -- They have distinct names, and none that is listed.
+    pub fresh : (before : List Module) (m : Module) → IsStep plan before m
+        → is_named (faces_of (listed ++ before)) m.face.name ≡ false
+    -- What a module uses is listed, or comes before it.
+    pub behind : (before : List Module) (m : Module) → IsStep plan before m → (p : Module)
+        → Member p (uses tree kernel m) → Member p (listed ++ before)
+    -- No double line has both sides among the plan, the listed modules and the kernel, and one of
+    -- them in the plan.
+    pub alone : list_any (collides (stands (listed ++ plan)) (is_at plan)) (unmet tree kernel)
+        ≡ false
+    -- No other line belongs to a module of the plan.
+    pub clear : (m : Module) → Member m plan → list_any (belongs m.path) (unmet tree kernel) ≡ false
 
 -- Over a known kernel, after modules of the tree that load one after the other, no module of a
 -- closed plan is refused for its names.

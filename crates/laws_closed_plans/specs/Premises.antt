@@ -1,6 +1,7 @@
 -- The use of each premise of the law on closed plans: small trees that lack one of them, and are
 -- refused.
-use Rattle.std.specs.Prelude.{ℕ, ◌&&◌, not, nat_eq, Bool, true, false, List, [], ◌∷◌, ◌++◌, Some, is_none, codes}
+use Rattle.std.specs.Prelude.{ℕ, ◌&&◌, not, nat_eq, Bool, true, false, List, [], ◌∷◌, ◌++◌, Some}
+use Rattle.std.specs.Prelude.{is_none, codes}
 use Rattle.std.specs.List.{list_any, list_all}
 use Rattle.symbol_binding.specs.Symbols.{Module, Kernel}
 use Rattle.symbol_binding.specs.Provider.{uses}
@@ -11,13 +12,15 @@ use Rattle.laws_closed_plans.specs.Plan.{faces_of, is_at, stands}
 -- Whether each module is new among the modules before it.
 abbrev pub are_fresh : List Module → List Module → Bool
 are_fresh loaded [] = true
-are_fresh loaded (m ∷ ms) = not (is_named (faces_of loaded) m.face.name) && are_fresh (loaded ++ m ∷ []) ms
+are_fresh loaded (m ∷ ms) =
+    not (is_named (faces_of loaded) m.face.name) && are_fresh (loaded ++ m ∷ []) ms
 
 -- Whether what each module uses comes before it.
 abbrev pub are_behind : List Module → Kernel → List Module → List Module → Bool
 are_behind tree kernel loaded [] = true
 are_behind tree kernel loaded (m ∷ ms) =
-    list_all (λ p. is_named (faces_of loaded) p.face.name) (uses tree kernel m) && are_behind tree kernel (loaded ++ m ∷ []) ms
+    list_all (λ p. is_named (faces_of loaded) p.face.name) (uses tree kernel m)
+    && are_behind tree kernel (loaded ++ m ∷ []) ms
 
 -- The premises, in order. The kernel is known. The listed modules are of the tree, and load one
 -- after the other. The modules of the plan are of the tree, new, and after what they use. They have
@@ -37,7 +40,8 @@ premises tree kernel listed plan =
 -- All premises hold except the one at this place.
 abbrev pub all_but : ℕ → List Bool
 all_but i =
-    not (nat_eq i 0) ∷ not (nat_eq i 1) ∷ not (nat_eq i 2) ∷ not (nat_eq i 3) ∷ not (nat_eq i 4) ∷ not (nat_eq i 5) ∷ not (nat_eq i 6) ∷ not (nat_eq i 7) ∷ []
+    not (nat_eq i 0) ∷ not (nat_eq i 1) ∷ not (nat_eq i 2) ∷ not (nat_eq i 3) ∷ not (nat_eq i 4)
+    ∷ not (nat_eq i 5) ∷ not (nat_eq i 6) ∷ not (nat_eq i 7) ∷ []
 
 -- A kernel that exports nothing, and a kernel that isn't known.
 abbrev pub bare : Kernel

@@ -1,6 +1,9 @@
 // The laws.
 ghost use Rattle.std.specs.Prelude.{◌≡◌, true, false, Some, None, [], ◌∷◌, codes};
-ghost use Rattle.model_loader.specs.declared.fault.LoadFault.TheVariants.{AlreadyLoaded, MissingSymbol, VersionDiffers, ExportTaken};
+ghost use Rattle.model_loader.specs.declared.fault.LoadFault.TheVariants.{AlreadyLoaded};
+ghost use Rattle.model_loader.specs.declared.fault.LoadFault.TheVariants.{MissingSymbol};
+ghost use Rattle.model_loader.specs.declared.fault.LoadFault.TheVariants.{VersionDiffers};
+ghost use Rattle.model_loader.specs.declared.fault.LoadFault.TheVariants.{ExportTaken};
 ghost use Rattle.laws_closed_plans.specs.Names.{first_name_fault};
 ghost use Rattle.laws_closed_plans.specs.Plan.{ClosedPlansPass, faces_of};
 ghost use Rattle.laws_closed_plans.specs.Binding.{AddressesAreUnseen, ClosedPlansBind, LoadsBind};
@@ -38,23 +41,36 @@ pub fn premises_are_needed()
     ensures all { premises (p ∷ wanting false ∷ []) bare [] (p ∷ wanting false ∷ []) ≡ all_but 8 }
     ensures loads { first_name_fault bare [] (faces_of (p ∷ wanting false ∷ [])) ≡ None }
     ensures known { premises (wanting false ∷ []) hidden [] (wanting false ∷ []) ≡ all_but 0 }
-    ensures known_refused { first_name_fault hidden [] (faces_of (wanting false ∷ [])) ≡ Some (MissingSymbol (codes "x")) }
+    ensures known_refused { first_name_fault hidden [] (faces_of (wanting false ∷ []))
+        ≡ Some (MissingSymbol (codes "x")) }
     ensures listed { premises (wanting true ∷ []) bare (q ∷ []) (wanting true ∷ []) ≡ all_but 1 }
-    ensures listed_refused { first_name_fault bare (faces_of (q ∷ [])) (faces_of (wanting true ∷ [])) ≡ Some (VersionDiffers (codes "x")) }
-    ensures loaded { premises (p ∷ q ∷ wanting false ∷ []) bare (q ∷ p ∷ []) (wanting false ∷ []) ≡ all_but 2 }
-    ensures loaded_refused { first_name_fault bare (faces_of (q ∷ p ∷ [])) (faces_of (wanting false ∷ [])) ≡ Some (VersionDiffers (codes "x")) }
+    ensures listed_refused { first_name_fault bare (faces_of (q ∷ []))
+        (faces_of (wanting true ∷ []))
+        ≡ Some (VersionDiffers (codes "x")) }
+    ensures loaded { premises (p ∷ q ∷ wanting false ∷ []) bare (q ∷ p ∷ []) (wanting false ∷ [])
+        ≡ all_but 2 }
+    ensures loaded_refused { first_name_fault bare (faces_of (q ∷ p ∷ []))
+        (faces_of (wanting false ∷ []))
+        ≡ Some (VersionDiffers (codes "x")) }
     ensures tree { premises [] bare [] (wanting false ∷ []) ≡ all_but 3 }
-    ensures tree_refused { first_name_fault bare [] (faces_of (wanting false ∷ [])) ≡ Some (MissingSymbol (codes "x")) }
+    ensures tree_refused { first_name_fault bare [] (faces_of (wanting false ∷ []))
+        ≡ Some (MissingSymbol (codes "x")) }
     ensures fresh { premises (p ∷ []) bare (p ∷ []) (p ∷ []) ≡ all_but 4 }
-    ensures fresh_refused { first_name_fault bare (faces_of (p ∷ [])) (faces_of (p ∷ [])) ≡ Some AlreadyLoaded }
+    ensures fresh_refused { first_name_fault bare (faces_of (p ∷ [])) (faces_of (p ∷ []))
+        ≡ Some AlreadyLoaded }
     ensures behind { premises (p ∷ wanting false ∷ []) bare [] (wanting false ∷ []) ≡ all_but 5 }
-    ensures behind_refused { first_name_fault bare [] (faces_of (wanting false ∷ [])) ≡ Some (MissingSymbol (codes "x")) }
-    ensures weak { premises (p ∷ q ∷ wanting true ∷ []) bare [] (q ∷ wanting true ∷ []) ≡ all_but 5 }
-    ensures weak_refused { first_name_fault bare [] (faces_of (q ∷ wanting true ∷ [])) ≡ Some (VersionDiffers (codes "x")) }
+    ensures behind_refused { first_name_fault bare [] (faces_of (wanting false ∷ []))
+        ≡ Some (MissingSymbol (codes "x")) }
+    ensures weak { premises (p ∷ q ∷ wanting true ∷ []) bare [] (q ∷ wanting true ∷ [])
+        ≡ all_but 5 }
+    ensures weak_refused { first_name_fault bare [] (faces_of (q ∷ wanting true ∷ []))
+        ≡ Some (VersionDiffers (codes "x")) }
     ensures alone { premises (p ∷ q ∷ []) bare [] (p ∷ q ∷ []) ≡ all_but 6 }
-    ensures alone_refused { first_name_fault bare [] (faces_of (p ∷ q ∷ [])) ≡ Some (ExportTaken (codes "x") (codes "p")) }
+    ensures alone_refused { first_name_fault bare [] (faces_of (p ∷ q ∷ []))
+        ≡ Some (ExportTaken (codes "x") (codes "p")) }
     ensures clear { premises (wanting false ∷ []) bare [] (wanting false ∷ []) ≡ all_but 7 }
-    ensures clear_refused { first_name_fault bare [] (faces_of (wanting false ∷ [])) ≡ Some (MissingSymbol (codes "x")) }
+    ensures clear_refused { first_name_fault bare [] (faces_of (wanting false ∷ []))
+        ≡ Some (MissingSymbol (codes "x")) }
 {}
 
 /// States that the premises of the law on plans hold for a tree of two modules.

@@ -16,7 +16,8 @@ use Rattle.command_depmod.specs.Files.{all_files}
 use Rattle.laws_indexed_folder.specs.Indexed.{AreIn, IsModuleFile}
 use Rattle.laws_depmod_leaves.specs.Comes.{made_of}
 use Rattle.laws_depmod_leaves.specs.Left.{DepmodLeavesIndexed, with_files}
-use Rattle.laws_depmod_leaves.proofs.ReadLemmas.{kernel-came, kernel_with-known, paths-came, table-same, valid-tree}
+use Rattle.laws_depmod_leaves.proofs.ReadLemmas.{kernel-came, kernel_with-known, paths-came}
+use Rattle.laws_depmod_leaves.proofs.ReadLemmas.{table-same, valid-tree}
 use Rattle.laws_depmod_leaves.proofs.PutLemmas.{all-there, still-module}
 
 pub left-indexed : DepmodLeavesIndexed
@@ -42,7 +43,9 @@ left-indexed held asked i place is =
         related = subst (λ k. relation_fault (modules_of i.tree) k ≡ None) over is.related;
         small = subst (λ k. output_fault (files i.tree k i.builtin) ≡ None) over is.small;
         made =
-            subst (λ k. AreIn (with_files target fs all held) folder (files i.tree k i.builtin)) over
-            (subst (λ into. AreIn (with_files into fs all held) folder fs.usual) (sym place.folder) (all-there folder asked.extra fs held));
+            subst (λ k. AreIn (with_files target fs all held) folder (files i.tree k i.builtin))
+            over
+            (subst (λ into. AreIn (with_files into fs all held) folder fs.usual) (sym place.folder)
+            (all-there folder asked.extra fs held));
       };
     }

@@ -1,6 +1,7 @@
 -- How far a depmod gets, by the files that it finds: it indexes the tree in a folder, or something
 -- ends it. depmod(8), modules.dep(5).
-use Rattle.std.specs.Prelude.{◌≡◌, ℕ, true, false, List, [], ◌∷◌, ◌++◌, length, map, codes, Option, Some, None, Ok}
+use Rattle.std.specs.Prelude.{◌≡◌, ℕ, true, false, List, [], ◌∷◌, ◌++◌, length, map, codes, Option}
+use Rattle.std.specs.Prelude.{Some, None, Ok}
 use Rattle.km_names.specs.Path.{is_compressed, path_below}
 use Rattle.km_outside.specs.Contents.{Contents}
 use Rattle.km_course.specs.Course.{Outcome, reads, reads_any}
@@ -56,26 +57,30 @@ made_of i = record { usual = files_of i; extra = extra_made i.tree i.info }
 
 -- The folder that is asked for has a tree of modules at these paths, in this order, as it is chosen
 -- from the listing of the folder. And the kernel has the table that is named, or an unknown one.
-pub record HasTree (held : Contents) (asked : DepmodWords) (paths : List (List ℕ)) (table : Table) : Type 0 where
+pub record HasTree (held : Contents) (asked : DepmodWords) (paths : List (List ℕ)) (table : Table) :
+    Type 0 where
   pub search : List (List ℕ)
   pub searched : ((reads_search asked.config).run held).outcome ≡ value search
   pub chosen : ((reads_tree (modules_of_request asked) search).run held).outcome ≡ value paths
   pub kernel : ((reads_kernel asked.filesyms asked.symvers).run held).outcome ≡ value table
 
 -- The first modules of a tree are valid and state these facts; and these paths are left.
-pub record AreValid (held : Contents) (folder : List ℕ) (paths : List (List ℕ)) (modules : List Facts) (left : List (List ℕ)) : Type 0 where
+pub record AreValid (held : Contents) (folder : List ℕ) (paths : List (List ℕ))
+    (modules : List Facts) (left : List (List ℕ)) : Type 0 where
   pub split : paths ≡ map (λ (f : Facts). f.path) modules ++ left
   pub valid : (f : Facts) → Member f modules → IsModuleFile held folder f
 
 -- All modules of the tree are valid.
-pub record IsRead (held : Contents) (asked : DepmodWords) (tree : List Facts) (table : Table) : Type 0 where
+pub record IsRead (held : Contents) (asked : DepmodWords) (tree : List Facts) (table : Table) : Type
+    0 where
   pub paths : List (List ℕ)
   pub found : HasTree held asked paths table
   pub modules : AreValid held (modules_of_request asked) paths tree []
 
 -- The bytes of modules.builtin, or the end that it results in. It counts as empty if there is none.
 abbrev pub built_in : Contents → DepmodWords → Outcome (List ℕ)
-built_in held asked = ((reads_any (path_below (modules_of_request asked) (codes "modules.builtin"))).run held).outcome
+built_in held asked =
+    ((reads_any (path_below (modules_of_request asked) (codes "modules.builtin"))).run held).outcome
 
 -- The bytes of modules.builtin.modinfo, if they are asked for, or the end that reading it results
 -- in. It counts as empty if there is none.
@@ -101,7 +106,8 @@ pub record IsIndexed (held : Contents) (asked : DepmodWords) (i : IndexedTree) :
   -- loaded
   pub stand : StandFor i.tree (seen_kernel i.table) i.builtin (files_of i)
   -- and so do the two more of `--extra`
-  pub stand_extra : (info : List ℕ) → i.info ≡ Some info → ExtraStand i.tree info (extra_files i.tree info)
+  pub stand_extra : (info : List ℕ) → i.info ≡ Some info
+      → ExtraStand i.tree info (extra_files i.tree info)
 
 -- ---- what ends it
 
@@ -110,9 +116,13 @@ pub data IsBadModule (held : Contents) (folder path : List ℕ) : End → Type 0
   -- it is a compressed one, which isn't read
   compressed : is_compressed path ≡ true → IsBadModule held folder path (Refused (Compressed path))
   -- its file can't be read
-  unread : is_compressed path ≡ false → (e : End) → ((reads (path_below folder path)).run held).outcome ≡ end e → IsBadModule held folder path e
+  unread : is_compressed path ≡ false → (e : End)
+      → ((reads (path_below folder path)).run held).outcome ≡ end e → IsBadModule held folder path e
   -- this is the first test that its file fails
-  bad : is_compressed path ≡ false → (bytes : List ℕ) → ((reads (path_below folder path)).run held).outcome ≡ value bytes → (fault : ModuleFault) → fact_fault path bytes ≡ Some fault → IsBadModule held folder path (Refused (BadModule path (module_fault_text fault)))
+  bad : is_compressed path ≡ false → (bytes : List ℕ)
+      → ((reads (path_below folder path)).run held).outcome ≡ value bytes → (fault : ModuleFault)
+      → fact_fault path bytes ≡ Some fault
+      → IsBadModule held folder path (Refused (BadModule path (module_fault_text fault)))
 
 -- The walk along which the modules of a tree use one another and that leads back, by places in the
 -- tree. It is empty if there is no such walk.
@@ -122,25 +132,54 @@ cycle_in tree table = cycle (uses_at (modules_of tree) (seen_kernel table)) (bel
 -- Something ends a depmod before it has files, in the order of its work.
 pub data IsEnded (held : Contents) (asked : DepmodWords) : End → Type 0 where
   -- the configuration
-  no_search : (e : End) → ((reads_search asked.config).run held).outcome ≡ end e → IsEnded held asked e
+  no_search : (e : End) → ((reads_search asked.config).run held).outcome ≡ end e
+      → IsEnded held asked e
   -- the listing, modules.order, a bad path or too many modules
-  no_tree : (search : List (List ℕ)) → ((reads_search asked.config).run held).outcome ≡ value search → (e : End) → ((reads_tree (modules_of_request asked) search).run held).outcome ≡ end e → IsEnded held asked e
+  no_tree : (search : List (List ℕ)) → ((reads_search asked.config).run held).outcome ≡ value search
+      → (e : End) → ((reads_tree (modules_of_request asked) search).run held).outcome ≡ end e
+      → IsEnded held asked e
   -- the kernel's table
-  no_table : (search paths : List (List ℕ)) → ((reads_search asked.config).run held).outcome ≡ value search → ((reads_tree (modules_of_request asked) search).run held).outcome ≡ value paths → (e : End) → ((reads_kernel asked.filesyms asked.symvers).run held).outcome ≡ end e → IsEnded held asked e
+  no_table : (search paths : List (List ℕ))
+      → ((reads_search asked.config).run held).outcome ≡ value search
+      → ((reads_tree (modules_of_request asked) search).run held).outcome ≡ value paths → (e : End)
+      → ((reads_kernel asked.filesyms asked.symvers).run held).outcome ≡ end e
+      → IsEnded held asked e
   -- a module, after valid ones
-  bad_module : (paths : List (List ℕ)) (table : Table) → HasTree held asked paths table → (before : List Facts) (path : List ℕ) (later : List (List ℕ)) → AreValid held (modules_of_request asked) paths before (path ∷ later) → (e : End) → IsBadModule held (modules_of_request asked) path e → IsEnded held asked e
+  bad_module : (paths : List (List ℕ)) (table : Table) → HasTree held asked paths table
+      → (before : List Facts) (path : List ℕ) (later : List (List ℕ))
+      → AreValid held (modules_of_request asked) paths before (path ∷ later) → (e : End)
+      → IsBadModule held (modules_of_request asked) path e → IsEnded held asked e
   -- a cycle, if all modules are valid
-  has_cycle : (tree : List Facts) (table : Table) → IsRead held asked tree table → (i : ℕ) (is : List ℕ) → cycle_in tree table ≡ i ∷ is → IsEnded held asked (Refused (Cycle (map (name_at (modules_of tree)) (i ∷ is))))
+  has_cycle : (tree : List Facts) (table : Table) → IsRead held asked tree table
+      → (i : ℕ) (is : List ℕ) → cycle_in tree table ≡ i ∷ is
+      → IsEnded held asked (Refused (Cycle (map (name_at (modules_of tree)) (i ∷ is))))
   -- if there is none, a limit of dependencies or of double lines
-  too_many : (tree : List Facts) (table : Table) → IsRead held asked tree table → cycle_in tree table ≡ [] → (refusal : Refusal) → relation_refusal (modules_of tree) (seen_kernel table) ≡ Some refusal → IsEnded held asked (Refused refusal)
+  too_many : (tree : List Facts) (table : Table) → IsRead held asked tree table
+      → cycle_in tree table ≡ [] → (refusal : Refusal)
+      → relation_refusal (modules_of tree) (seen_kernel table) ≡ Some refusal
+      → IsEnded held asked (Refused refusal)
   -- modules.builtin
-  no_builtin : (tree : List Facts) (table : Table) → IsRead held asked tree table → relation_fault (modules_of tree) (seen_kernel table) ≡ None → (e : End) → built_in held asked ≡ end e → IsEnded held asked e
+  no_builtin : (tree : List Facts) (table : Table) → IsRead held asked tree table
+      → relation_fault (modules_of tree) (seen_kernel table) ≡ None → (e : End)
+      → built_in held asked ≡ end e → IsEnded held asked e
   -- modules.builtin.modinfo
-  no_info : (tree : List Facts) (table : Table) → IsRead held asked tree table → relation_fault (modules_of tree) (seen_kernel table) ≡ None → (builtin : List ℕ) → built_in held asked ≡ value builtin → (e : End) → built_in_info held asked ≡ end e → IsEnded held asked e
+  no_info : (tree : List Facts) (table : Table) → IsRead held asked tree table
+      → relation_fault (modules_of tree) (seen_kernel table) ≡ None → (builtin : List ℕ)
+      → built_in held asked ≡ value builtin → (e : End) → built_in_info held asked ≡ end e
+      → IsEnded held asked e
   -- the first of the nine files that is too large
-  too_large : (i : IndexedTree) → IsRead held asked i.tree i.table → relation_fault (modules_of i.tree) (seen_kernel i.table) ≡ None → built_in held asked ≡ value i.builtin → built_in_info held asked ≡ value i.info → (refusal : Refusal) → usual_refusal (files_of i) ≡ Some refusal → IsEnded held asked (Refused refusal)
+  too_large : (i : IndexedTree) → IsRead held asked i.tree i.table
+      → relation_fault (modules_of i.tree) (seen_kernel i.table) ≡ None
+      → built_in held asked ≡ value i.builtin → built_in_info held asked ≡ value i.info
+      → (refusal : Refusal) → usual_refusal (files_of i) ≡ Some refusal
+      → IsEnded held asked (Refused refusal)
   -- if none of them is, the first of the two others
-  extra_too_large : (i : IndexedTree) → IsRead held asked i.tree i.table → relation_fault (modules_of i.tree) (seen_kernel i.table) ≡ None → built_in held asked ≡ value i.builtin → built_in_info held asked ≡ value i.info → output_fault (files_of i) ≡ None → (refusal : Refusal) → extra_refusal (extra_made i.tree i.info) ≡ Some refusal → IsEnded held asked (Refused refusal)
+  extra_too_large : (i : IndexedTree) → IsRead held asked i.tree i.table
+      → relation_fault (modules_of i.tree) (seen_kernel i.table) ≡ None
+      → built_in held asked ≡ value i.builtin → built_in_info held asked ≡ value i.info
+      → output_fault (files_of i) ≡ None → (refusal : Refusal)
+      → extra_refusal (extra_made i.tree i.info) ≡ Some refusal
+      → IsEnded held asked (Refused refusal)
 
 -- What a depmod results in over the files that it finds.
 abbrev pub ComesTo : Contents → DepmodWords → Outcome IndexedTree → Type 0

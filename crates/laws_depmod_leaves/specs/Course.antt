@@ -1,5 +1,6 @@
 -- What the course of a depmod is, by how far it gets. depmod(8).
-use Rattle.std.specs.Prelude.{◌≡◌, ℕ, Bool, true, List, [], ◌∷◌, ◌++◌, map, flat_map, Option, Some, None, is_some, if◌then◌else◌, ⊤}
+use Rattle.std.specs.Prelude.{◌≡◌, ℕ, Bool, true, List, [], ◌∷◌, ◌++◌, map, flat_map, Option, Some}
+use Rattle.std.specs.Prelude.{None, is_some, if◌then◌else◌, ⊤}
 use Rattle.std.specs.List.{list_all}
 use Rattle.km_names.specs.Path.{path_below}
 use Rattle.km_outside.specs.Contents.{Contents}
@@ -26,11 +27,13 @@ warned (Some text) = warn text ∷ []
 
 -- The warnings of some obstacles, each one writing.
 abbrev pub warn_acts : Bool → List Unbound → List Act
-warn_acts versions obstacles = flat_map (λ obstacle. warned (warning_line versions obstacle)) obstacles
+warn_acts versions obstacles =
+    flat_map (λ obstacle. warned (warning_line versions obstacle)) obstacles
 
 -- Some files are put into a folder, one after the other.
 abbrev pub put_acts : List ℕ → DepmodFiles → List DepmodFile → List Act
-put_acts folder made names = map (λ name. put (path_below folder (file_name name)) (content made name)) names
+put_acts folder made names =
+    map (λ name. put (path_below folder (file_name name)) (content made name)) names
 
 -- Some files are written to the output, one after the other.
 abbrev pub say_acts : DepmodFiles → List DepmodFile → List Act
@@ -39,8 +42,12 @@ say_acts made names = flat_map (λ name. said (content made name)) names
 -- What is written of an index: the warnings, if they are asked for, and then the files.
 abbrev pub index_acts : DepmodWords → IndexedTree → List Act
 index_acts asked i =
-    (if asked.errsyms then warn_acts (is_some asked.symvers) (unmet (modules_of i.tree) (seen_kernel i.table)) else [])
-    ++ (if asked.dry_run then say_acts (made_of i) (text_files asked.extra) else put_acts (target_of_request asked) (made_of i) (all_files asked.extra))
+    (if asked.errsyms
+    then warn_acts (is_some asked.symvers) (unmet (modules_of i.tree) (seen_kernel i.table))
+    else [])
+    ++ (if asked.dry_run
+    then say_acts (made_of i) (text_files asked.extra)
+    else put_acts (target_of_request asked) (made_of i) (all_files asked.extra))
 
 -- What is written, and the end of the course.
 abbrev pub writes : DepmodWords → Outcome IndexedTree → List Act
@@ -62,4 +69,5 @@ pub record IsIndexingCourse (held : Contents) (asked : DepmodWords) (run : Run �
 
 -- The course of each depmod is such a course, over any files.
 abbrev pub CoursesIndex : Type 0
-CoursesIndex = (held : Contents) (asked : DepmodWords) → IsIndexingCourse held asked ((indexes asked).run held)
+CoursesIndex =
+    (held : Contents) (asked : DepmodWords) → IsIndexingCourse held asked ((indexes asked).run held)

@@ -17,7 +17,8 @@ use Rattle.laws_depmod_leaves.specs.Comes.{IndexedTree, IsIndexed, made_of}
 abbrev pub with_files : List ℕ → DepmodFiles → List DepmodFile → Contents → Contents
 with_files folder made [] held = held
 with_files folder made (name ∷ names) held =
-    with_files folder made names (insert held (path_below folder (file_name name)) (content made name))
+    with_files folder made names
+    (insert held (path_below folder (file_name name)) (content made name))
 
 -- A request for files that are replaced in the folder of the modules, by the table of a kernel.
 pub record IsInPlace (asked : DepmodWords) : Type 0 where
@@ -42,4 +43,5 @@ DepmodLeavesIndexed =
     (held : Contents) (asked : DepmodWords) (i : IndexedTree)
     → IsInPlace asked
     → IsIndexed held asked i
-    → LeftIndexed asked i (with_files (target_of_request asked) (made_of i) (all_files asked.extra) held)
+    → LeftIndexed asked i
+    (with_files (target_of_request asked) (made_of i) (all_files asked.extra) held)

@@ -18,7 +18,8 @@ use Rattle.laws_depmod_leaves.specs.Left.{LeftIndexed}
 -- modprobe names a Module.symvers, each has the table of its Module.symvers, and otherwise of its
 -- System.map. The depmod's file has among the first files what the modprobe's has among the others,
 -- whatever their paths.
-abbrev pub AreOfOneTable : Contents → Contents → Option (List ℕ) → Option (List ℕ) → List ℕ → Option (List ℕ) → Type 0
+abbrev pub AreOfOneTable : Contents → Contents → Option (List ℕ) → Option (List ℕ) → List ℕ
+    → Option (List ℕ) → Type 0
 AreOfOneTable held left (Some file) symvers map None = get held file ≡ get left map
 AreOfOneTable held left (Some file) symvers map (Some other) = ⊥
 AreOfOneTable held left None (Some file) map (Some other) = get held file ≡ get left other
@@ -28,7 +29,8 @@ AreOfOneTable held left None None map other = ⊥
 -- A modprobe is asked to load over the files that a depmod left, which found the first ones. It
 -- loads from the same folder into the machine of this kernel, which has its table of the same
 -- bytes.
-pub record IsLoadAfter (held : Contents) (asked : DepmodWords) (left : Contents) (loads : ModprobeWords) (addressed : Kernel) (region : Region) : Type 0 where
+pub record IsLoadAfter (held : Contents) (asked : DepmodWords) (left : Contents)
+    (loads : ModprobeWords) (addressed : Kernel) (region : Region) : Type 0 where
   pub folder : modules_folder loads.dirname loads.version ≡ modules_of_request asked
   pub machine : HasMachine left loads addressed region
   pub table : AreOfOneTable held left asked.filesyms asked.symvers machine.map loads.symvers
@@ -37,8 +39,10 @@ pub record IsLoadAfter (held : Contents) (asked : DepmodWords) (left : Contents)
 -- indexed.
 abbrev pub LeftForLoads : Type 0
 LeftForLoads =
-    (held : Contents) (asked : DepmodWords) (i : IndexedTree) (left : Contents) (loads : ModprobeWords) (addressed : Kernel) (region : Region)
+    (held : Contents) (asked : DepmodWords) (i : IndexedTree) (left : Contents)
+    (loads : ModprobeWords) (addressed : Kernel) (region : Region)
     → IsIndexed held asked i
     → (is : LeftIndexed asked i left)
     → IsLoadAfter held asked left loads addressed region
-    → IsIndexedFor left (modules_folder loads.dirname loads.version) i.tree is.kernel i.builtin addressed
+    → IsIndexedFor left (modules_folder loads.dirname loads.version) i.tree is.kernel i.builtin
+    addressed

@@ -54,14 +54,19 @@ none-unmet = refl
 
 abbrev pub dep_bytes : List ℕ
 dep_bytes =
-    0xb0 ∷ 0x07 ∷ 0xf4 ∷ 0x57 ∷ 0 ∷ 2 ∷ 0 ∷ 1 ∷ 0x20 ∷ 0 ∷ 0 ∷ 0x2d ∷ 0 ∷ 0 ∷ 0 ∷ 1 ∷ 0 ∷ 0 ∷ 0 ∷ 0 ∷ 109 ∷ 46 ∷ 107 ∷ 111 ∷ 58 ∷ 32 ∷ 112 ∷ 46 ∷ 107 ∷ 111 ∷ 0 ∷ 0 ∷ 0 ∷ 0 ∷ 1 ∷ 0 ∷ 0 ∷ 0 ∷ 1 ∷ 112 ∷ 46 ∷ 107 ∷ 111 ∷ 58 ∷ 0 ∷ 109 ∷ 112 ∷ 0x40 ∷ 0 ∷ 0 ∷ 0x0c ∷ 0 ∷ 0 ∷ 0 ∷ 0 ∷ 0 ∷ 0 ∷ 0 ∷ 0 ∷ 0x40 ∷ 0 ∷ 0 ∷ 0x1f ∷ []
+    0xb0 ∷ 0x07 ∷ 0xf4 ∷ 0x57 ∷ 0 ∷ 2 ∷ 0 ∷ 1 ∷ 0x20 ∷ 0 ∷ 0 ∷ 0x2d ∷ 0 ∷ 0 ∷ 0 ∷ 1 ∷ 0 ∷ 0 ∷ 0 ∷ 0
+    ∷ 109 ∷ 46 ∷ 107 ∷ 111 ∷ 58 ∷ 32 ∷ 112 ∷ 46 ∷ 107 ∷ 111 ∷ 0 ∷ 0 ∷ 0 ∷ 0 ∷ 1 ∷ 0 ∷ 0 ∷ 0 ∷ 1
+    ∷ 112 ∷ 46 ∷ 107 ∷ 111 ∷ 58 ∷ 0 ∷ 109 ∷ 112 ∷ 0x40 ∷ 0 ∷ 0 ∷ 0x0c ∷ 0 ∷ 0 ∷ 0 ∷ 0 ∷ 0 ∷ 0
+    ∷ 0 ∷ 0 ∷ 0x40 ∷ 0 ∷ 0 ∷ 0x1f ∷ []
 
 abbrev pub empty_bytes : List ℕ
 empty_bytes = 0xb0 ∷ 0x07 ∷ 0xf4 ∷ 0x57 ∷ 0 ∷ 2 ∷ 0 ∷ 1 ∷ 0 ∷ 0 ∷ 0 ∷ 0x0c ∷ []
 
 abbrev pub symbols_bytes : List ℕ
 symbols_bytes =
-    0xb0 ∷ 0x07 ∷ 0xf4 ∷ 0x57 ∷ 0 ∷ 2 ∷ 0 ∷ 1 ∷ 0x20 ∷ 0 ∷ 0 ∷ 0x1e ∷ 121 ∷ 109 ∷ 98 ∷ 111 ∷ 108 ∷ 58 ∷ 120 ∷ 0 ∷ 0 ∷ 0 ∷ 0 ∷ 1 ∷ 0 ∷ 0 ∷ 0 ∷ 1 ∷ 112 ∷ 0 ∷ 115 ∷ 115 ∷ 0xc0 ∷ 0 ∷ 0 ∷ 0x0c ∷ []
+    0xb0 ∷ 0x07 ∷ 0xf4 ∷ 0x57 ∷ 0 ∷ 2 ∷ 0 ∷ 1 ∷ 0x20 ∷ 0 ∷ 0 ∷ 0x1e ∷ 121 ∷ 109 ∷ 98 ∷ 111 ∷ 108
+    ∷ 58 ∷ 120 ∷ 0 ∷ 0 ∷ 0 ∷ 0 ∷ 1 ∷ 0 ∷ 0 ∷ 0 ∷ 1 ∷ 112 ∷ 0 ∷ 115 ∷ 115 ∷ 0xc0 ∷ 0 ∷ 0 ∷ 0x0c
+    ∷ []
 
 abbrev first_line : Value
 first_line = (0, codes "m.ko: p.ko")
@@ -69,23 +74,29 @@ first_line = (0, codes "m.ko: p.ko")
 abbrev second_line : Value
 second_line = (1, codes "p.ko:")
 
-dep-entries : entries (dep_map two closures) ≡ (codes "m", first_line ∷ []) ∷ (codes "p", second_line ∷ []) ∷ []
+dep-entries : entries (dep_map two closures)
+    ≡ (codes "m", first_line ∷ []) ∷ (codes "p", second_line ∷ []) ∷ []
 unfolding dep_map
 dep-entries =
-    entries-more (with_value empty (codes "m") first_line) ((codes "m", first_line ∷ []) ∷ []) (codes "p") second_line
+    entries-more (with_value empty (codes "m") first_line) ((codes "m", first_line ∷ []) ∷ [])
+    (codes "p") second_line
     (entries-more empty [] (codes "m") first_line (entries-none (slice_cmp nat_cmp)))
 
 dep-file : file (dep_map two closures) ≡ dep_bytes
 unfolding computing
-dep-file = file-of (dep_map two closures) ((codes "m", first_line ∷ []) ∷ (codes "p", second_line ∷ []) ∷ []) dep-entries
+dep-file =
+    file-of (dep_map two closures)
+    ((codes "m", first_line ∷ []) ∷ (codes "p", second_line ∷ []) ∷ []) dep-entries
 
 symbols-entries : entries (symbols_map two) ≡ (codes "symbol:x", (1, codes "p") ∷ []) ∷ []
 unfolding symbols_map
-symbols-entries = entries-more empty [] (codes "symbol:x") (1, codes "p") (entries-none (slice_cmp nat_cmp))
+symbols-entries =
+    entries-more empty [] (codes "symbol:x") (1, codes "p") (entries-none (slice_cmp nat_cmp))
 
 symbols-file : file (symbols_map two) ≡ symbols_bytes
 unfolding computing
-symbols-file = file-of (symbols_map two) ((codes "symbol:x", (1, codes "p") ∷ []) ∷ []) symbols-entries
+symbols-file =
+    file-of (symbols_map two) ((codes "symbol:x", (1, codes "p") ∷ []) ∷ []) symbols-entries
 
 alias-file : file (alias_map two) ≡ empty_bytes
 unfolding computing
@@ -170,21 +181,27 @@ earlier-unmet = refl
 
 abbrev pub earlier_bytes : List ℕ
 earlier_bytes =
-    0xb0 ∷ 0x07 ∷ 0xf4 ∷ 0x57 ∷ 0 ∷ 2 ∷ 0 ∷ 1 ∷ 0x20 ∷ 0 ∷ 0 ∷ 0x28 ∷ 0 ∷ 0 ∷ 0 ∷ 1 ∷ 0 ∷ 0 ∷ 0 ∷ 0 ∷ 109 ∷ 46 ∷ 107 ∷ 111 ∷ 58 ∷ 0 ∷ 0 ∷ 0 ∷ 0 ∷ 1 ∷ 0 ∷ 0 ∷ 0 ∷ 1 ∷ 112 ∷ 46 ∷ 107 ∷ 111 ∷ 58 ∷ 0 ∷ 109 ∷ 112 ∷ 0x40 ∷ 0 ∷ 0 ∷ 0x0c ∷ 0 ∷ 0 ∷ 0 ∷ 0 ∷ 0 ∷ 0 ∷ 0 ∷ 0 ∷ 0x40 ∷ 0 ∷ 0 ∷ 0x1a ∷ []
+    0xb0 ∷ 0x07 ∷ 0xf4 ∷ 0x57 ∷ 0 ∷ 2 ∷ 0 ∷ 1 ∷ 0x20 ∷ 0 ∷ 0 ∷ 0x28 ∷ 0 ∷ 0 ∷ 0 ∷ 1 ∷ 0 ∷ 0 ∷ 0 ∷ 0
+    ∷ 109 ∷ 46 ∷ 107 ∷ 111 ∷ 58 ∷ 0 ∷ 0 ∷ 0 ∷ 0 ∷ 1 ∷ 0 ∷ 0 ∷ 0 ∷ 1 ∷ 112 ∷ 46 ∷ 107 ∷ 111 ∷ 58
+    ∷ 0 ∷ 109 ∷ 112 ∷ 0x40 ∷ 0 ∷ 0 ∷ 0x0c ∷ 0 ∷ 0 ∷ 0 ∷ 0 ∷ 0 ∷ 0 ∷ 0 ∷ 0 ∷ 0x40 ∷ 0 ∷ 0 ∷ 0x1a
+    ∷ []
 
 abbrev earlier_line : Value
 earlier_line = (0, codes "m.ko:")
 
-earlier-entries : entries (dep_map earlier_two earlier_closures) ≡ (codes "m", earlier_line ∷ []) ∷ (codes "p", second_line ∷ []) ∷ []
+earlier-entries : entries (dep_map earlier_two earlier_closures)
+    ≡ (codes "m", earlier_line ∷ []) ∷ (codes "p", second_line ∷ []) ∷ []
 unfolding dep_map
 earlier-entries =
-    entries-more (with_value empty (codes "m") earlier_line) ((codes "m", earlier_line ∷ []) ∷ []) (codes "p") second_line
+    entries-more (with_value empty (codes "m") earlier_line) ((codes "m", earlier_line ∷ []) ∷ [])
+    (codes "p") second_line
     (entries-more empty [] (codes "m") earlier_line (entries-none (slice_cmp nat_cmp)))
 
 earlier-file : file (dep_map earlier_two earlier_closures) ≡ earlier_bytes
 unfolding computing
 earlier-file =
-    file-of (dep_map earlier_two earlier_closures) ((codes "m", earlier_line ∷ []) ∷ (codes "p", second_line ∷ []) ∷ []) earlier-entries
+    file-of (dep_map earlier_two earlier_closures)
+    ((codes "m", earlier_line ∷ []) ∷ (codes "p", second_line ∷ []) ∷ []) earlier-entries
 
 abbrev pub earlier_files : OutputFiles
 earlier_files = record two_files { dep = codes "m.ko:\np.ko:\n"; dep_bin = earlier_bytes }
@@ -206,6 +223,7 @@ earlier-by-closures = λ i. record {
 pub earlier-made : files earlier_two bare_kernel [] ≡ earlier_files
 unfolding files
 earlier-made =
-    ap (λ cs. files_by earlier_two cs (unmet (modules_of earlier_two) bare_kernel) []) earlier-depend
+    ap (λ cs. files_by earlier_two cs (unmet (modules_of earlier_two) bare_kernel) [])
+    earlier-depend
     ∙ ap (λ ls. files_by earlier_two earlier_closures ls []) earlier-unmet
     ∙ earlier-by-closures

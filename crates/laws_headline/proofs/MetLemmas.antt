@@ -8,20 +8,40 @@ use Rattle.laws_indexed_folder.specs.Indexed.{IsModuleFile}
 use Rattle.laws_indexed_folder.proofs.StandingLemmas.{files-stand}
 use Rattle.laws_depmod_leaves.specs.Comes.{AreValid, HasTree, IsIndexed, built_in_info}
 use Rattle.laws_depmod_leaves.proofs.ReadLemmas.{outcome-given, paths-came, valid-tree}
-use Rattle.laws_headline.specs.Objects.{folder_found, found, giver_facts, giver_file, taker_facts, taker_file}
+use Rattle.laws_headline.specs.Objects.{folder_found, found, giver_facts, giver_file, taker_facts}
+use Rattle.laws_headline.specs.Objects.{taker_file}
 use Rattle.laws_headline.specs.Met.{depmod_asked, indexed}
 use Rattle.laws_headline.proofs.MetFiles.{made-small, related}
-use Rattle.laws_headline.proofs.MetMachine.{giver-passes, giver-small, giver-states, taker-passes, taker-small, taker-states}
-use Rattle.laws_headline.proofs.MetReads.{chosen, found-get, none-built_in, searched, tabled, two_paths, words_of_search}
+use Rattle.laws_headline.proofs.MetMachine.{giver-passes, giver-small, giver-states, taker-passes}
+use Rattle.laws_headline.proofs.MetMachine.{taker-small, taker-states}
+use Rattle.laws_headline.proofs.MetReads.{chosen, found-get, none-built_in, searched, tabled}
+use Rattle.laws_headline.proofs.MetReads.{two_paths, words_of_search}
 
 giver-is : IsModuleFile found folder_found giver_facts
-giver-is = record { kind = refl; bytes = giver_file; there = found-get _; small = giver-small; passed = giver-passes; facts = giver-states }
+giver-is =
+    record {
+      kind = refl;
+      bytes = giver_file;
+      there = found-get _;
+      small = giver-small;
+      passed = giver-passes;
+      facts = giver-states;
+    }
 
 taker-is : IsModuleFile found folder_found taker_facts
-taker-is = record { kind = refl; bytes = taker_file; there = found-get _; small = taker-small; passed = taker-passes; facts = taker-states }
+taker-is =
+    record {
+      kind = refl;
+      bytes = taker_file;
+      there = found-get _;
+      small = taker-small;
+      passed = taker-passes;
+      facts = taker-states;
+    }
 
 has-tree : HasTree found depmod_asked two_paths indexed.table
-has-tree = record { search = words_of_search; searched = searched; chosen = chosen; kernel = tabled }
+has-tree =
+    record { search = words_of_search; searched = searched; chosen = chosen; kernel = tabled }
 
 are-valid : AreValid found folder_found two_paths indexed.tree []
 are-valid = record { split = refl; valid = valid }
@@ -44,6 +64,8 @@ is-indexed = record {
   small = made-small;
   small_extra = refl;
   stand = files-stand indexed.tree (seen_kernel indexed.table) []
-      (valid-tree found folder_found two_paths indexed.tree (paths-came found folder_found words_of_search two_paths chosen).0 are-valid) made-small;
+      (valid-tree found folder_found two_paths indexed.tree
+      (paths-came found folder_found words_of_search two_paths chosen).0 are-valid)
+      made-small;
   stand_extra = λ info is. absurd (cc);
 }

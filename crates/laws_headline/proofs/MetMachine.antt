@@ -75,7 +75,9 @@ module _ (pages : IsRegion 65536 65536) where
   giver-loads : step start giver ≡ Ok one_loaded
   unfolding step
   giver-loads =
-      ap (λ o. option_map_or Err o (Ok (with_entry start (entry_at start giver (module_base start giver))))) giver-unrefused
+      ap (λ o. option_map_or Err o
+      (Ok (with_entry start (entry_at start giver (module_base start giver)))))
+      giver-unrefused
       ∙ ap (λ base. Ok (with_entry start (entry_at start giver base))) giver-base
 
   taker-unrefused : refusal one_loaded taker ≡ None
@@ -89,7 +91,9 @@ module _ (pages : IsRegion 65536 65536) where
   taker-loads : step one_loaded taker ≡ Ok both_loaded
   unfolding step
   taker-loads =
-      ap (λ o. option_map_or Err o (Ok (with_entry one_loaded (entry_at one_loaded taker (module_base one_loaded taker))))) taker-unrefused
+      ap (λ o. option_map_or Err o
+      (Ok (with_entry one_loaded
+      (entry_at one_loaded taker (module_base one_loaded taker))))) taker-unrefused
       ∙ ap (λ base. Ok (with_entry one_loaded (entry_at one_loaded taker base))) taker-base
 
   pub both-load : load_all start (giver ∷ taker ∷ []) ≡ Ok both_loaded

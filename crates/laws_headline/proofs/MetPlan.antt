@@ -1,6 +1,8 @@
 -- Plans of a module that uses another, computed from the files of depmod.
-use Rattle.std.proofs.Common.{◌≡◌, ◌∙◌, ℕ, Bool, true, false, List, [], ◌∷◌, ◌++◌, length, map, codes, refl, ap}
-use Rattle.std.specs.Prelude.{Option, None, not, ◌==◌, unwrap_or, flat_map, filter, drop, find as find_in, option_map}
+use Rattle.std.proofs.Common.{◌≡◌, ◌∙◌, ℕ, Bool, true, false, List, [], ◌∷◌, ◌++◌, length, map}
+use Rattle.std.proofs.Common.{codes, refl, ap}
+use Rattle.std.specs.Prelude.{Option, None, not, ◌==◌, unwrap_or, flat_map, filter, drop}
+use Rattle.std.specs.Prelude.{find as find_in, option_map}
 use Rattle.std.specs.Ordering.{nat_cmp}
 use Rattle.std.specs.Cmp.Lexicographic.{slice_cmp}
 use Rattle.std.specs.FinMap.{entries, find, get, entries-from_sorted, get-from_sorted}
@@ -19,13 +21,17 @@ use Rattle.name_lookup.specs.Maps.{has_value, maps_of}
 use Rattle.name_table.specs.FirstSeen.{is_among}
 use Rattle.relation_order.specs.Cycle.{cycle}
 use Rattle.relation_order.specs.Sets.{below}
-use Rattle.planned_modules.specs.Members.{chosen_command, kind_unless, is_unknown_kind, is_unfound, is_unknown, all_names}
+use Rattle.planned_modules.specs.Members.{chosen_command, kind_unless, is_unknown_kind, is_unfound}
+use Rattle.planned_modules.specs.Members.{is_unknown, all_names}
 use Rattle.plan_builder.specs.Requested.{found_for}
-use Rattle.dependency_lines.specs.Modules.{line_places, bad_among, bad_name, by_number, first_value, modules_of, name_at, path_at, place_of, places_of}
+use Rattle.dependency_lines.specs.Modules.{line_places, bad_among, bad_name, by_number, first_value}
+use Rattle.dependency_lines.specs.Modules.{modules_of, name_at, path_at, place_of, places_of}
 use Rattle.planned_modules.specs.Needs.{Sources, after, before, modules, unloaded}
-use Rattle.plan_builder.specs.Obstacles.{PlanObstacle, bad_dep_line, cycle_obstacle, not_found, obstacle_of, plan_tests}
+use Rattle.plan_builder.specs.Obstacles.{PlanObstacle, bad_dep_line, cycle_obstacle, not_found}
+use Rattle.plan_builder.specs.Obstacles.{obstacle_of, plan_tests}
 use Rattle.plan_builder.specs.Sources.{sources}
-use Rattle.plan_builder.specs.Steps.{found_steps, later, plan_steps, rule_options, step_of_kind, step_unless, module_step}
+use Rattle.plan_builder.specs.Steps.{found_steps, later, plan_steps, rule_options, step_of_kind}
+use Rattle.plan_builder.specs.Steps.{step_unless, module_step}
 use Rattle.plan_builder.specs.declared.request.Request.{Request}
 use Rattle.plan_builder.specs.declared.step.PlanStep.{PlanStep}
 use Rattle.plan_builder.specs.declared.step.PlanStep.TheVariants.{Insert, Install}
@@ -38,11 +44,18 @@ use Rattle.laws_headline.proofs.MetFiles.{dep_bytes, earlier_bytes, empty_bytes,
 -- the indexes of which that of dependency lines has these bytes, and the others are those of the
 -- two modules
 abbrev pub indexes_by : List ℕ → Indexes
-indexes_by dep = record { dep = index_of dep; alias = index_of empty_bytes; symbols = index_of symbols_bytes; builtin = index_of empty_bytes }
+indexes_by dep =
+    record {
+      dep = index_of dep;
+      alias = index_of empty_bytes;
+      symbols = index_of symbols_bytes;
+      builtin = index_of empty_bytes;
+    }
 
 -- a plan for the module is asked for
 abbrev pub request : Request
-request = record { names = codes "m" ∷ []; options = []; use_blacklist = false; ignore_install = false }
+request =
+    record { names = codes "m" ∷ []; options = []; use_blacklist = false; ignore_install = false }
 
 abbrev pub sources_by : List Rule → List (List ℕ) → List ℕ → Sources
 sources_by stated loaded dep = sources stated (indexes_by dep) [] loaded request
@@ -56,37 +69,50 @@ found_itself = record { list = 2; names = codes "m" ∷ [] }
 
 abbrev kind_step : List Rule → List ℕ → List KeyValue → List PlanStep
 kind_step stated dep ms =
-    step_of_kind (kind_unless (place_of ms (codes "m")) (chosen_command stated false (codes "m")) (has_value (maps_of (indexes_by dep)).builtin (codes "m"))) (codes "m") ++ []
+    step_of_kind (kind_unless (place_of ms (codes "m")) (chosen_command stated false (codes "m"))
+    (has_value (maps_of (indexes_by dep)).builtin (codes "m"))) (codes "m")
+    ++ []
 
 abbrev step_by : List Rule → List KeyValue → ℕ → PlanStep
 step_by stated ms x =
-    step_unless (chosen_command stated false (name_at ms x)) (name_at ms x) (path_at ms x) (spaced (flat_map (rule_options (name_at ms x)) stated ++ []))
+    step_unless (chosen_command stated false (name_at ms x)) (name_at ms x) (path_at ms x)
+    (spaced (flat_map (rule_options (name_at ms x)) stated ++ []))
 
 abbrev later_by : (ℕ → List ℕ) → List ℕ → List KeyValue → Found → List ℕ
 later_by b u ms f =
-    drop (length (with_groups (among b) u [] (places_of ms f.names ∷ []))) (plan (among b) u (λ x. []) (places_of ms f.names ∷ []))
+    drop (length (with_groups (among b) u [] (places_of ms f.names ∷ [])))
+    (plan (among b) u (λ x. []) (places_of ms f.names ∷ []))
 
 abbrev steps_by : List Rule → List ℕ → (ℕ → List ℕ) → List ℕ → List KeyValue → List PlanStep
 steps_by stated dep b u ms =
-    ((kind_step stated dep ms ++ map (step_by stated ms) (group (among b) u [] (places_of ms (codes "m" ∷ [])))) ++ [])
+    ((kind_step stated dep ms
+    ++ map (step_by stated ms)
+    (group (among b) u [] (places_of ms (codes "m" ∷ []))))
+    ++ [])
     ++ map (step_by stated ms) (later_by b u ms found_itself)
 
 abbrev unknown_by : List Rule → List ℕ → List KeyValue → List ℕ → Bool
 unknown_by stated dep ms name =
-    is_unknown_kind (kind_unless (place_of ms name) (chosen_command stated false name) (has_value (maps_of (indexes_by dep)).builtin name))
+    is_unknown_kind
+    (kind_unless (place_of ms name) (chosen_command stated false name)
+    (has_value (maps_of (indexes_by dep)).builtin name))
 
-abbrev obstacle_by : Option PlanObstacle → List Rule → List ℕ → (ℕ → List ℕ) → List ℕ → List KeyValue → Found → Option PlanObstacle
+abbrev obstacle_by : Option PlanObstacle → List Rule → List ℕ → (ℕ → List ℕ) → List ℕ
+    → List KeyValue → Found → Option PlanObstacle
 obstacle_by bad stated dep b u ms f = first (
     bad
     ∷ option_map not_found (find_in (λ name. f.list == 0) (codes "m" ∷ []))
     ∷ option_map not_found (find_in (unknown_by stated dep ms) (f.names ++ []))
     ∷ None ∷ None ∷ None ∷ None
-    ∷ cycle_obstacle (map (name_at ms) (cycle (among b) (planned (among b) u (λ x. []) (places_of ms f.names ∷ []))))
+    ∷ cycle_obstacle
+    (map (name_at ms)
+    (cycle (among b) (planned (among b) u (λ x. []) (places_of ms f.names ∷ []))))
     ∷ None
     ∷ [])
 
 -- what a plan is computed from
-record ArePlanned (stated : List Rule) (loaded : List (List ℕ)) (dep : List ℕ) (b : ℕ → List ℕ) (u : List ℕ) (ms : List KeyValue) : Type 0 where
+record ArePlanned (stated : List Rule) (loaded : List (List ℕ)) (dep : List ℕ) (b : ℕ → List ℕ)
+    (u : List ℕ) (ms : List KeyValue) : Type 0 where
   bad : bad_name (contents dep) ≡ None
   itself : found stated (maps_of (indexes_by dep)) false (codes "m") ≡ found_itself
   is_before : before (sources_by stated loaded dep) ≡ b
@@ -94,23 +120,56 @@ record ArePlanned (stated : List Rule) (loaded : List (List ℕ)) (dep : List �
   is_unloaded : unloaded (sources_by stated loaded dep) ≡ u
   are : modules_of (contents dep) ≡ ms
 
-steps-so : (stated : List Rule) (loaded : List (List ℕ)) (dep : List ℕ) (b : ℕ → List ℕ) (u : List ℕ) (ms : List KeyValue) → ArePlanned stated loaded dep b u ms → plan_steps (sources_by stated loaded dep) request ≡ steps_by stated dep b u ms
+steps-so : (stated : List Rule) (loaded : List (List ℕ)) (dep : List ℕ) (b : ℕ → List ℕ)
+    (u : List ℕ) (ms : List KeyValue)
+    → ArePlanned stated loaded dep b u ms
+    → plan_steps (sources_by stated loaded dep) request ≡ steps_by stated dep b u ms
 unfolding plan_steps
 steps-so stated loaded dep b u ms p =
     let s = sources_by stated loaded dep in
-    ap (λ f. found_steps s request (f ∷ []) ++ map (module_step s request) (later s (f ∷ []))) p.itself
-    ∙ ap (λ post. ((kind_step stated dep (modules s) ++ map (step_by stated (modules s)) (group (among (before s)) (unloaded s) [] (places_of (modules s) (codes "m" ∷ [])))) ++ []) ++ map (step_by stated (modules s)) (drop (length (with_groups (among (before s)) (unloaded s) [] (places_of (modules s) (codes "m" ∷ []) ∷ []))) (plan (among (before s)) (unloaded s) post (places_of (modules s) (codes "m" ∷ []) ∷ [])))) p.is_after
+    ap (λ f. found_steps s request (f ∷ []) ++ map (module_step s request) (later s (f ∷ [])))
+    p.itself
+    ∙ ap (λ post. ((kind_step stated dep (modules s)
+    ++ map (step_by stated (modules s))
+    (group (among (before s)) (unloaded s) []
+    (places_of (modules s) (codes "m" ∷ []))))
+    ++ [])
+    ++ map (step_by stated (modules s))
+    (drop (length
+    (with_groups (among (before s)) (unloaded s) []
+    (places_of (modules s) (codes "m" ∷ []) ∷ [])))
+    (plan (among (before s)) (unloaded s) post
+    (places_of (modules s) (codes "m" ∷ []) ∷ [])))) p.is_after
     ∙ ap (λ b. steps_by stated dep b (unloaded s) (modules s)) p.is_before
     ∙ ap (λ u. steps_by stated dep b u (modules s)) p.is_unloaded
     ∙ ap (steps_by stated dep b u) p.are
 
-obstacle-so : (stated : List Rule) (loaded : List (List ℕ)) (dep : List ℕ) (b : ℕ → List ℕ) (u : List ℕ) (ms : List KeyValue) → ArePlanned stated loaded dep b u ms → obstacle_of (sources_by stated loaded dep) request ≡ obstacle_by None stated dep b u ms found_itself
+obstacle-so : (stated : List Rule) (loaded : List (List ℕ)) (dep : List ℕ) (b : ℕ → List ℕ)
+    (u : List ℕ) (ms : List KeyValue)
+    → ArePlanned stated loaded dep b u ms
+    → obstacle_of (sources_by stated loaded dep) request
+    ≡ obstacle_by None stated dep b u ms found_itself
 unfolding obstacle_of
 obstacle-so stated loaded dep b u ms p =
     let s = sources_by stated loaded dep in
-    ap (λ bad. first (option_map bad_dep_line bad ∷ option_map not_found (find_in (is_unfound s) (codes "m" ∷ [])) ∷ option_map not_found (find_in (is_unknown s false) (all_names (found_for s request))) ∷ plan_tests s (found_for s request))) p.bad
-    ∙ ap (λ f. first (None ∷ option_map not_found (find_in (λ name. f.list == 0) (codes "m" ∷ [])) ∷ option_map not_found (find_in (is_unknown s false) (all_names (f ∷ []))) ∷ plan_tests s (f ∷ []))) p.itself
-    ∙ ap (λ post. first (None ∷ option_map not_found (find_in (λ name. found_itself.list == 0) (codes "m" ∷ [])) ∷ option_map not_found (find_in (unknown_by stated dep (modules s)) (codes "m" ∷ [])) ∷ None ∷ None ∷ None ∷ None ∷ cycle_obstacle (map (name_at (modules s)) (cycle (among (before s)) (planned (among (before s)) (unloaded s) post (places_of (modules s) (codes "m" ∷ []) ∷ [])))) ∷ None ∷ [])) p.is_after
+    ap (λ bad. first (option_map bad_dep_line bad
+    ∷ option_map not_found (find_in (is_unfound s) (codes "m" ∷ []))
+    ∷ option_map not_found (find_in (is_unknown s false) (all_names (found_for s request)))
+    ∷ plan_tests s (found_for s request))) p.bad
+    ∙ ap (λ f. first
+    (None ∷ option_map not_found (find_in (λ name. f.list == 0) (codes "m" ∷ []))
+    ∷ option_map not_found (find_in (is_unknown s false) (all_names (f ∷ [])))
+    ∷ plan_tests s (f ∷ []))) p.itself
+    ∙ ap (λ post. first
+    (None ∷ option_map not_found (find_in (λ name. found_itself.list == 0) (codes "m" ∷ []))
+    ∷ option_map not_found (find_in (unknown_by stated dep (modules s)) (codes "m" ∷ []))
+    ∷ None ∷ None ∷ None ∷ None
+    ∷ cycle_obstacle
+    (map (name_at (modules s))
+    (cycle (among (before s))
+    (planned (among (before s)) (unloaded s) post
+    (places_of (modules s) (codes "m" ∷ []) ∷ []))))
+    ∷ None ∷ [])) p.is_after
     ∙ ap (λ b. obstacle_by None stated dep b (unloaded s) (modules s) found_itself) p.is_before
     ∙ ap (λ u. obstacle_by None stated dep b u (modules s) found_itself) p.is_unloaded
     ∙ ap (λ ms. obstacle_by None stated dep b u ms found_itself) p.are
@@ -148,7 +207,8 @@ modules-read = ap (λ (es : List Entry). by_number (flat_map (λ e. first_value 
 well-formed : bad_name (contents dep_bytes) ≡ None
 unfolding computing
 well-formed =
-    ap (λ (es : List Entry). bad_among (has_value (contents dep_bytes)) (flat_map (λ e. first_value e.0 e.1) es)) dep-read
+    ap (λ (es : List Entry). bad_among (has_value (contents dep_bytes))
+    (flat_map (λ e. first_value e.0 e.1) es)) dep-read
     ∙ ap (λ has. bad_among has two_modules) dep-has
 
 -- what comes before a module, by the dependency lines
@@ -180,18 +240,22 @@ are-plain = record {
 
 pub plain-unhindered : obstacle_of (sources_by [] [] dep_bytes) request ≡ None
 unfolding plan computing
-plain-unhindered = obstacle-so [] [] dep_bytes (uses_of two_modules) (others_of [] two_modules) two_modules are-plain
+plain-unhindered =
+    obstacle-so [] [] dep_bytes (uses_of two_modules) (others_of [] two_modules) two_modules
+    are-plain
 
 pub plain-steps : plan_steps (sources_by [] [] dep_bytes) request ≡ two_steps
 unfolding plan computing
-plain-steps = steps-so [] [] dep_bytes (uses_of two_modules) (others_of [] two_modules) two_modules are-plain
+plain-steps =
+    steps-so [] [] dep_bytes (uses_of two_modules) (others_of [] two_modules) two_modules are-plain
 
 -- ---- where the other module is listed as loaded
 
 abbrev pub loaded_other : List (List ℕ)
 loaded_other = codes "p" ∷ []
 
-are-left : ArePlanned [] loaded_other dep_bytes (uses_of two_modules) (others_of loaded_other two_modules) two_modules
+are-left : ArePlanned [] loaded_other dep_bytes (uses_of two_modules)
+    (others_of loaded_other two_modules) two_modules
 are-left = record {
   bad = well-formed;
   itself = found-plain;
@@ -204,12 +268,15 @@ are-left = record {
 pub left-unhindered : obstacle_of (sources_by [] loaded_other dep_bytes) request ≡ None
 unfolding plan computing
 left-unhindered =
-    obstacle-so [] loaded_other dep_bytes (uses_of two_modules) (others_of loaded_other two_modules) two_modules are-left
+    obstacle-so [] loaded_other dep_bytes (uses_of two_modules) (others_of loaded_other two_modules)
+    two_modules are-left
 
-pub left-steps : plan_steps (sources_by [] loaded_other dep_bytes) request ≡ Insert (codes "m") (codes "m.ko") [] ∷ []
+pub left-steps : plan_steps (sources_by [] loaded_other dep_bytes) request
+    ≡ Insert (codes "m") (codes "m.ko") [] ∷ []
 unfolding plan computing
 left-steps =
-    steps-so [] loaded_other dep_bytes (uses_of two_modules) (others_of loaded_other two_modules) two_modules are-left
+    steps-so [] loaded_other dep_bytes (uses_of two_modules) (others_of loaded_other two_modules)
+    two_modules are-left
 
 -- ---- with a command for the other module
 
@@ -223,7 +290,8 @@ found-commanded = rw has-m refl
 abbrev pub commanded_steps : List PlanStep
 commanded_steps = Install (codes "p") (codes "true") ∷ Insert (codes "m") (codes "m.ko") [] ∷ []
 
-are-commanded : ArePlanned command [] dep_bytes (uses_of two_modules) (others_of [] two_modules) two_modules
+are-commanded : ArePlanned command [] dep_bytes (uses_of two_modules) (others_of [] two_modules)
+    two_modules
 are-commanded = record {
   bad = well-formed;
   itself = found-commanded;
@@ -236,12 +304,14 @@ are-commanded = record {
 pub commanded-unhindered : obstacle_of (sources_by command [] dep_bytes) request ≡ None
 unfolding plan computing
 commanded-unhindered =
-    obstacle-so command [] dep_bytes (uses_of two_modules) (others_of [] two_modules) two_modules are-commanded
+    obstacle-so command [] dep_bytes (uses_of two_modules) (others_of [] two_modules) two_modules
+    are-commanded
 
 pub commanded-steps : plan_steps (sources_by command [] dep_bytes) request ≡ commanded_steps
 unfolding plan computing
 commanded-steps =
-    steps-so command [] dep_bytes (uses_of two_modules) (others_of [] two_modules) two_modules are-commanded
+    steps-so command [] dep_bytes (uses_of two_modules) (others_of [] two_modules) two_modules
+    are-commanded
 
 -- ---- by an index in which the module doesn't use the other yet
 
@@ -252,7 +322,8 @@ earlier-read : entries (contents earlier_bytes) ≡ earlier_entries
 unfolding contents branches items computing
 earlier-read = entries-from_sorted (slice_cmp nat_cmp) earlier_entries tt
 
-earlier-get : (key : List ℕ) → get (contents earlier_bytes) key ≡ find (slice_cmp nat_cmp) key earlier_entries
+earlier-get : (key : List ℕ)
+    → get (contents earlier_bytes) key ≡ find (slice_cmp nat_cmp) key earlier_entries
 unfolding contents branches items computing
 earlier-get key = get-from_sorted (slice_cmp nat_cmp) earlier_entries key tt
 
@@ -267,19 +338,22 @@ earlier_modules = (codes "m", (0, codes "m.ko:")) ∷ (codes "p", (1, codes "p.k
 
 earlier-modules : modules_of (contents earlier_bytes) ≡ earlier_modules
 unfolding modules_of
-earlier-modules = ap (λ (es : List Entry). by_number (flat_map (λ e. first_value e.0 e.1) es)) earlier-read
+earlier-modules =
+    ap (λ (es : List Entry). by_number (flat_map (λ e. first_value e.0 e.1) es)) earlier-read
 
 earlier-formed : bad_name (contents earlier_bytes) ≡ None
 unfolding computing
 earlier-formed =
-    ap (λ (es : List Entry). bad_among (has_value (contents earlier_bytes)) (flat_map (λ e. first_value e.0 e.1) es)) earlier-read
+    ap (λ (es : List Entry). bad_among (has_value (contents earlier_bytes))
+    (flat_map (λ e. first_value e.0 e.1) es)) earlier-read
     ∙ ap (λ has. bad_among has earlier_modules) earlier-has
 
 found-earlier : found [] (maps_of (indexes_by earlier_bytes)) false (codes "m") ≡ found_itself
 unfolding found computing
 found-earlier = rw earlier-has-m refl
 
-are-earlier : ArePlanned [] [] earlier_bytes (uses_of earlier_modules) (others_of [] earlier_modules) earlier_modules
+are-earlier : ArePlanned [] [] earlier_bytes (uses_of earlier_modules)
+    (others_of [] earlier_modules) earlier_modules
 are-earlier = record {
   bad = earlier-formed;
   itself = found-earlier;
@@ -292,9 +366,12 @@ are-earlier = record {
 pub earlier-unhindered : obstacle_of (sources_by [] [] earlier_bytes) request ≡ None
 unfolding plan computing
 earlier-unhindered =
-    obstacle-so [] [] earlier_bytes (uses_of earlier_modules) (others_of [] earlier_modules) earlier_modules are-earlier
+    obstacle-so [] [] earlier_bytes (uses_of earlier_modules) (others_of [] earlier_modules)
+    earlier_modules are-earlier
 
-pub earlier-steps : plan_steps (sources_by [] [] earlier_bytes) request ≡ Insert (codes "m") (codes "m.ko") [] ∷ []
+pub earlier-steps : plan_steps (sources_by [] [] earlier_bytes) request
+    ≡ Insert (codes "m") (codes "m.ko") [] ∷ []
 unfolding plan computing
 earlier-steps =
-    steps-so [] [] earlier_bytes (uses_of earlier_modules) (others_of [] earlier_modules) earlier_modules are-earlier
+    steps-so [] [] earlier_bytes (uses_of earlier_modules) (others_of [] earlier_modules)
+    earlier_modules are-earlier

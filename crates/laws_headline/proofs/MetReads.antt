@@ -30,7 +30,8 @@ use Rattle.laws_headline.proofs.MetFiles.{bare_table}
 
 abbrev pub found_files : List (List ℕ × List ℕ)
 found_files =
-    (path_below folder_found (codes "m.ko"), taker_file) ∷ (path_below folder_found (codes "p.ko"), giver_file) ∷ (codes "/S", []) ∷ []
+    (path_below folder_found (codes "m.ko"), taker_file)
+    ∷ (path_below folder_found (codes "p.ko"), giver_file) ∷ (codes "/S", []) ∷ []
 
 abbrev pub found_paths : List (List ℕ)
 found_paths = codes "/S" ∷ codes "/lib/modules/1/m.ko" ∷ codes "/lib/modules/1/p.ko" ∷ []
@@ -49,7 +50,8 @@ words_of_search = codes "updates" ∷ codes "built-in" ∷ []
 pub searched : ((reads_search None).run found).outcome ≡ value words_of_search
 unfolding search_of computing
 searched =
-    on-value found (reads_configuration Depmod None) (λ files. given (stated_outcome (search_of files))) [] (only-configuration Depmod None)
+    on-value found (reads_configuration Depmod None)
+    (λ files. given (stated_outcome (search_of files))) [] (only-configuration Depmod None)
     (unconfigured found found_paths Depmod found-paths (refl, (refl, (refl, (refl, (refl, tt))))))
     ∙ given-is (stated_outcome (search_of [])) found
 
@@ -75,7 +77,9 @@ abbrev after_order : List (List ℕ) → List ℕ → Stage (List (List ℕ))
 after_order listed order = given (tree_outcome listed order words_of_search)
 
 abbrev after_listing : List (List ℕ) → Stage (List (List ℕ))
-after_listing listed = reads_any (path_below folder_found (codes "modules.order")) >>= λ order. after_order listed order
+after_listing listed =
+    reads_any (path_below folder_found (codes "modules.order"))
+    >>= λ order. after_order listed order
 
 abbrev order_path : List ℕ
 order_path = path_below folder_found (codes "modules.order")
@@ -87,9 +91,11 @@ no-order =
 
 pub chosen : ((reads_tree folder_found words_of_search).run found).outcome ≡ value two_paths
 chosen =
-    on-value found (lists_tree folder_found) after_listing two_paths (reads-names (end (NoFile folder_found)) is_path folder_found)
+    on-value found (lists_tree folder_found) after_listing two_paths
+    (reads-names (end (NoFile folder_found)) is_path folder_found)
     (lists-so found found_paths (end (NoFile folder_found)) is_path folder_found found-paths)
-    ∙ on-value found (reads_any order_path) (after_order two_paths) [] (reads-file (value []) order_path) no-order
+    ∙ on-value found (reads_any order_path) (after_order two_paths) []
+    (reads-file (value []) order_path) no-order
     ∙ given-is (tree_outcome two_paths [] words_of_search) found
     ∙ chosen_ok two_paths [] words_of_search two_paths tree-is
 
@@ -104,8 +110,11 @@ mapped = refl
 
 pub tabled : ((reads_kernel (Some table_path) None).run found).outcome ≡ value bare_table
 tabled =
-    on-value found (reads table_path) (λ bytes. given (table_outcome table_path (exports_of_map bytes))) [] (reads-file (end (NoFile table_path)) table_path)
-    (ap (λ r. r.outcome) (run-read (end (NoFile table_path)) table_path found) ∙ ap (read_outcome (end (NoFile table_path)) table_path) (found-get table_path))
+    on-value found (reads table_path)
+    (λ bytes. given (table_outcome table_path (exports_of_map bytes))) []
+    (reads-file (end (NoFile table_path)) table_path)
+    (ap (λ r. r.outcome) (run-read (end (NoFile table_path)) table_path found)
+    ∙ ap (read_outcome (end (NoFile table_path)) table_path) (found-get table_path))
     ∙ given-is (table_outcome table_path (exports_of_map [])) found
     ∙ mapped
 

@@ -37,18 +37,22 @@ placed_x = record kernel_x { address = Some 4096 }
 -- What is known over the files of an index, if the configuration states these rules and these
 -- modules are listed as loaded.
 abbrev pub known_of_files : IndexedTree → List Rule → List (List ℕ) → Known
-known_of_files i stated loaded = record { rules = stated; indexes = indexes_of (files_of i); unmet = []; loaded = loaded }
+known_of_files i stated loaded =
+    record { rules = stated; indexes = indexes_of (files_of i); unmet = []; loaded = loaded }
 
 -- The plan of the load, over the files of an index.
 abbrev pub plan_over : IndexedTree → List Rule → List (List ℕ) → Outcome (List PlanStep)
-plan_over i stated loaded = plan_outcome (known_of_files i stated loaded) loaded (request_of load_asked)
+plan_over i stated loaded =
+    plan_outcome (known_of_files i stated loaded) loaded (request_of load_asked)
 
 -- The same table: if the machine's kernel exports `x`, and the one that was indexed doesn't, a
 -- module that exports it is refused.
 abbrev pub OtherTableIsRefused : Type 0
 OtherTableIsRefused =
     (passed : fact_fault (codes "p.ko") giver_file ≡ None) (region : Region)
-    → load_all (new_machine (kernel_with (record { known = true; exports = placed_x ∷ [] })) region) (module_at (codes "p.ko") giver_file passed ∷ []) ≡ Err (ExportTaken (codes "x") (codes "vmlinux"))
+    → load_all (new_machine (kernel_with (record { known = true; exports = placed_x ∷ [] })) region)
+    (module_at (codes "p.ko") giver_file passed ∷ [])
+    ≡ Err (ExportTaken (codes "x") (codes "vmlinux"))
 
 -- The module that uses the other is refused if that one isn't loaded before it. It is refused too
 -- if a command is run in its place, if listed modules don't load, and if the folder isn't as depmod
@@ -56,18 +60,25 @@ OtherTableIsRefused =
 abbrev pub AloneIsRefused : Type 0
 AloneIsRefused =
     (passed : fact_fault (codes "m.ko") taker_file ≡ None) (region : Region)
-    → load_all (new_machine (kernel_with indexed.table) region) (module_at (codes "m.ko") taker_file passed ∷ []) ≡ Err (MissingSymbol (codes "x"))
+    → load_all (new_machine (kernel_with indexed.table) region)
+    (module_at (codes "m.ko") taker_file passed ∷ [])
+    ≡ Err (MissingSymbol (codes "x"))
 
 -- The listed modules load: if the other module is listed as loaded, the plan leaves it out.
 abbrev pub ListedIsLeftOut : Type 0
-ListedIsLeftOut = plan_over indexed [] (codes "p" ∷ []) ≡ value (Insert (codes "m") (codes "m.ko") [] ∷ [])
+ListedIsLeftOut =
+    plan_over indexed [] (codes "p" ∷ []) ≡ value (Insert (codes "m") (codes "m.ko") [] ∷ [])
 
 -- No command: with an install rule for the other module its step runs the command, and the load is
 -- refused.
 abbrev pub CommandIsRefused : Type 0
 CommandIsRefused =
-    (plan_over indexed (rules.Install (codes "p") (codes "true") ∷ []) [] ≡ value (Install (codes "p") (codes "true") ∷ Insert (codes "m") (codes "m.ko") [] ∷ []))
-    × (inserts_outcome (Install (codes "p") (codes "true") ∷ Insert (codes "m") (codes "m.ko") [] ∷ []) ≡ end (Refused (InstallChosen (codes "p"))))
+    (plan_over indexed (rules.Install (codes "p") (codes "true") ∷ []) []
+    ≡ value
+    (Install (codes "p") (codes "true") ∷ Insert (codes "m") (codes "m.ko") [] ∷ []))
+    × (inserts_outcome
+    (Install (codes "p") (codes "true") ∷ Insert (codes "m") (codes "m.ko") [] ∷ [])
+    ≡ end (Refused (InstallChosen (codes "p"))))
 
 -- The folder as indexed: a tree in which the module didn't use the other yet. By its index only the
 -- module itself is planned.

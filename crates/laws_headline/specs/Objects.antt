@@ -102,7 +102,8 @@ folder_found = codes "/lib/modules/1"
 
 abbrev pub found : Contents
 found =
-    insert (insert (insert empty (codes "/S") []) (path_below folder_found (codes "p.ko")) giver_file)
+    insert
+    (insert (insert empty (codes "/S") []) (path_below folder_found (codes "p.ko")) giver_file)
     (path_below folder_found (codes "m.ko")) taker_file
 
 -- ---- what they state

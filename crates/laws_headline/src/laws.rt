@@ -1,6 +1,8 @@
 // The laws.
 ghost use Rattle.laws_headline.specs.Met.{HeadlineIsMet};
-ghost use Rattle.laws_headline.specs.Needed.{AloneIsRefused, CommandIsRefused, EarlierIsPlannedAlone, ListedIsLeftOut, NoAddressIsRefused, OtherTableIsRefused};
+ghost use Rattle.laws_headline.specs.Needed.{AloneIsRefused, CommandIsRefused};
+ghost use Rattle.laws_headline.specs.Needed.{EarlierIsPlannedAlone, ListedIsLeftOut};
+ghost use Rattle.laws_headline.specs.Needed.{NoAddressIsRefused, OtherTableIsRefused};
 
 /// States that the headline isn't empty. A depmod makes an index of a folder with two object files,
 /// one using the other. Over the files that it leaves, a load of the one that uses the other meets

@@ -1,5 +1,6 @@
 -- The file of a map stands for the map.
-use Rattle.std.proofs.Common.{◌+◌, ◌<◌, ◌≤◌, ◌^◌, ℕ, List, [], ◌∷◌, length, refl, subst, inl, inr, arith, lit<}
+use Rattle.std.proofs.Common.{◌+◌, ◌<◌, ◌≤◌, ◌^◌, ℕ, List, [], ◌∷◌, length, refl, subst, inl, inr}
+use Rattle.std.proofs.Common.{arith, lit<}
 use Rattle.std.specs.Prelude.{All}
 use Rattle.std.specs.List.{AllByRecursion}
 use Rattle.index_format.specs.Listing.{KeyValue}
@@ -21,11 +22,14 @@ all-fit : (ps : List KeyValue) → ((p : KeyValue) → Member p ps → Fits p) �
 all-fit [] fit = tt
 all-fit (p ∷ ps) fit = (fit p (inl refl), all-fit ps (λ q in'. fit q (inr in')))
 
-pub members-hold : (ps : List KeyValue) → ((p : KeyValue) → Member p ps → Fits p) → length (file (map_of ps)) ≤ 2 ^ 26 → Holds (file (map_of ps)) (map_of ps)
+pub members-hold : (ps : List KeyValue) → ((p : KeyValue) → Member p ps → Fits p)
+    → length (file (map_of ps)) ≤ 2 ^ 26 → Holds (file (map_of ps)) (map_of ps)
 members-hold ps fit low = map-holds ps (all-fit ps fit) low
 
 -- the dependency lines of a tree are such values
-lines-fit : (tree : List Facts) (n : ℕ) (ms : List Facts) (cs : List (List ℕ)) → All IsTreeModule tree → ((f : Facts) → Member f ms → IsTreeModule f) → n + length ms ≤ 2 ^ 32 → (p : KeyValue) → Member p (numbered tree n ms cs) → Fits p
+lines-fit : (tree : List Facts) (n : ℕ) (ms : List Facts) (cs : List (List ℕ))
+    → All IsTreeModule tree → ((f : Facts) → Member f ms → IsTreeModule f) → n + length ms ≤ 2 ^ 32
+    → (p : KeyValue) → Member p (numbered tree n ms cs) → Fits p
 lines-fit tree n [] cs all each few p in' = absurd in'
 lines-fit tree n (f ∷ ms) [] all each few p in' = absurd in'
 lines-fit tree n (f ∷ ms) (c ∷ cs) all each few p (inl is) =
@@ -34,9 +38,14 @@ lines-fit tree n (f ∷ ms) (c ∷ cs) all each few p (inl is) =
 lines-fit tree n (f ∷ ms) (c ∷ cs) all each few p (inr later) =
     lines-fit tree (n + 1) ms cs all (λ g in'. each g (inr in')) (omega (arith, few)) p later
 
-pub dep-holds : (tree : List Facts) (closures : List (List ℕ)) → IsTree tree → length (file (dep_map tree closures)) ≤ 2 ^ 26 → Holds (file (dep_map tree closures)) (dep_map tree closures)
+pub dep-holds : (tree : List Facts) (closures : List (List ℕ)) → IsTree tree
+    → length (file (dep_map tree closures)) ≤ 2 ^ 26
+    → Holds (file (dep_map tree closures)) (dep_map tree closures)
 unfolding dep_map
 dep-holds tree closures is_tree low =
     let few : length tree ≤ 10000 = is_tree.few in
     let small : 10000 < 2 ^ 32 = lit< tt in
-    members-hold (numbered tree 0 tree closures) (lines-fit tree 0 tree closures is_tree.modules (λ f in'. all-member IsTreeModule f tree is_tree.modules in') (omega (arith, few, small))) low
+    members-hold (numbered tree 0 tree closures)
+    (lines-fit tree 0 tree closures is_tree.modules
+    (λ f in'. all-member IsTreeModule f tree is_tree.modules in')
+    (omega (arith, few, small))) low

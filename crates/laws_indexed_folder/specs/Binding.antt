@@ -24,12 +24,15 @@ pub record StandsAsIndexed (tree : List Facts) (kernel : Kernel) (dep : KeyValue
   -- No walk from a module to one that it uses leads back.
   pub acyclic : cycle (uses_at (modules_of tree) (kernel_of kernel)) (below (length tree)) ≡ []
   -- The map has the same values under each name as the map of the tree's dependencies.
-  pub map : (name : List ℕ) → values_of dep name ≡ values_of (dep_map tree (dependencies (modules_of tree) (kernel_of kernel))) name
+  pub map : (name : List ℕ)
+      → values_of dep name
+      ≡ values_of (dep_map tree (dependencies (modules_of tree) (kernel_of kernel))) name
 
 -- A plan that is closed over the lines of that map binds.
 abbrev pub IndexedPlansBind : Type 0
 IndexedPlansBind =
-    (tree : List Facts) (kernel : Kernel) (dep : KeyValues) (addressed : Kernel) (region : Region) (listed plan : List Module)
+    (tree : List Facts) (kernel : Kernel) (dep : KeyValues) (addressed : Kernel) (region : Region)
+    (listed plan : List Module)
     → StandsAsIndexed tree kernel dep
     → IsPlanned tree kernel (lines_of_map dep) addressed region listed plan
     → Binds addressed region listed plan
@@ -40,5 +43,6 @@ abbrev pub LinesAreOfTree : Type 0
 LinesAreOfTree =
     (tree : List Facts) (kernel : Kernel) (dep : KeyValues)
     → StandsAsIndexed tree kernel dep
-    → ((name : List ℕ) (v : Value) → slice_get (values_of dep name) 0 ≡ Some v → IsLineIn tree name v.1)
+    → ((name : List ℕ) (v : Value) → slice_get (values_of dep name) 0 ≡ Some v
+    → IsLineIn tree name v.1)
     × ((f : Facts) → Member f tree → (v : Value) × (values_of dep f.name ≡ v ∷ []))

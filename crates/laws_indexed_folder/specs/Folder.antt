@@ -25,7 +25,8 @@ use Rattle.laws_indexed_folder.specs.Index.{lines_of_map}
 use Rattle.laws_indexed_folder.specs.Indexed.{HasFile, Indexed}
 
 -- The modules.dep.bin of a folder represents this map, and its modules.unmet has these lines.
-pub record IsRead (held : Contents) (folder : List ℕ) (dep : KeyValues) (lines : List Unbound) : Type 0 where
+pub record IsRead (held : Contents) (folder : List ℕ) (dep : KeyValues) (lines : List Unbound) :
+    Type 0 where
   pub index : List ℕ
   pub index_there : HasFile held (path_below folder (file_name DepBin)) index
   pub index_holds : Holds index dep
@@ -34,14 +35,16 @@ pub record IsRead (held : Contents) (folder : List ℕ) (dep : KeyValues) (lines
   pub text_states : unmet_of (path_below folder (file_name Unmet)) text ≡ Ok lines
 
 -- The file of the module of a name: the one at the first path of the dependency line.
-pub record IsFileOf (held : Contents) (folder : List ℕ) (dep : KeyValues) (name path bytes : List ℕ) : Type 0 where
+pub record IsFileOf (held : Contents) (folder : List ℕ) (dep : KeyValues) (name path bytes : List ℕ)
+    : Type 0 where
   pub value : Value
   pub first : slice_get (values_of dep name) 0 ≡ Some value
   pub own : own_path value.1 ≡ path
   pub there : HasFile held (path_below folder path) bytes
 
 -- The module of a name is the one of its file.
-pub record IsModuleOf (held : Contents) (folder : List ℕ) (dep : KeyValues) (name : List ℕ) (m : Module) : Type 0 where
+pub record IsModuleOf (held : Contents) (folder : List ℕ) (dep : KeyValues) (name : List ℕ)
+    (m : Module) : Type 0 where
   pub path : List ℕ
   pub bytes : List ℕ
   pub file : IsFileOf held folder dep name path bytes
@@ -59,20 +62,24 @@ AreModulesOf held folder dep (name ∷ names) (m ∷ ms) =
 -- module of that name, with the facts that the tree has.
 abbrev pub FilesAreValid : Type 0
 FilesAreValid =
-    (held : Contents) (folder : List ℕ) (tree : List Facts) (kernel : Kernel) (builtin : List ℕ) (dep : KeyValues) (lines : List Unbound)
+    (held : Contents) (folder : List ℕ) (tree : List Facts) (kernel : Kernel) (builtin : List ℕ)
+    (dep : KeyValues) (lines : List Unbound)
     → Indexed held folder tree kernel builtin
     → IsRead held folder dep lines
     → (name path bytes : List ℕ) → IsFileOf held folder dep name path bytes
-    → (fact_fault path bytes ≡ None) × ((facts_of path bytes).name ≡ name) × Member (facts_of path bytes) tree
+    → (fact_fault path bytes ≡ None) × ((facts_of path bytes).name ≡ name)
+    × Member (facts_of path bytes) tree
 
 -- A plan of a folder that is as depmod indexed it binds, if it is closed over the names of listed
 -- modules that load. The machine has the same kernel's table, with addresses.
 abbrev pub FoldersBind : Type 0
 FoldersBind =
-    (held : Contents) (folder : List ℕ) (tree : List Facts) (kernel : Kernel) (builtin : List ℕ) (dep : KeyValues) (lines : List Unbound)
+    (held : Contents) (folder : List ℕ) (tree : List Facts) (kernel : Kernel) (builtin : List ℕ)
+    (dep : KeyValues) (lines : List Unbound)
     → Indexed held folder tree kernel builtin
     → IsRead held folder dep lines
-    → (addressed : Kernel) (region : Region) (loaded plan : List (List ℕ)) (listed steps : List Module)
+    → (addressed : Kernel) (region : Region) (loaded plan : List (List ℕ))
+    (listed steps : List Module)
     → kernel_of addressed ≡ kernel_of kernel
     → AreModulesOf held folder dep loaded listed
     → AreModulesOf held folder dep plan steps

@@ -1,6 +1,7 @@
 -- Dependency lines as the map of modules.dep.bin has them: under the name of each module its
 -- dependency line. modules.dep(5), depmod(8).
-use Rattle.std.specs.Prelude.{◌≡◌, ◌==◌, ℕ, true, not, IsTrue, AllPairs, List, [], ◌∷◌, length, map, reverse, slice_get, Some}
+use Rattle.std.specs.Prelude.{◌≡◌, ◌==◌, ℕ, true, not, IsTrue, AllPairs, List, [], ◌∷◌, length, map}
+use Rattle.std.specs.Prelude.{reverse, slice_get, Some}
 use Rattle.std.specs.List.{list_any}
 use Rattle.km_names.specs.Ascii.{is_graphic}
 use Rattle.km_names.specs.Path.{module_name}
@@ -31,7 +32,15 @@ lines_of_map dep = record {
 abbrev pub HasLines : List Facts → Kernel → KeyValues → Type 0
 HasLines tree kernel dep =
     (i : ℕ) (f : Facts) → slice_get tree i ≡ Some f
-    → values_of dep f.name ≡ (i, dependency_line f.path (map (path_at tree) (reverse (closure (uses_at (modules_of tree) kernel) (below (length tree)) i)))) ∷ []
+    → values_of dep f.name
+    ≡ (
+      i,
+      dependency_line f.path
+          (map (path_at tree)
+          (reverse (closure (uses_at (modules_of tree) kernel)
+          (below (length tree)) i))),
+    )
+    ∷ []
 
 -- A module has the name of its path. The path is a module's, and has only visible characters and no
 -- `:`.
@@ -50,7 +59,8 @@ pub record IsLineIn (tree : List Facts) (name line : List ℕ) : Type 0 where
   pub is_line : is_dependency_line line ≡ true
   pub own : own_path line ≡ owner.path
   pub own_name : module_name (own_path line) ≡ name
-  pub others : (path : List ℕ) → Member path (line_needs line) → (other : Facts) × Member other tree × (other.path ≡ path) × (other.name ≡ module_name path)
+  pub others : (path : List ℕ) → Member path (line_needs line)
+      → (other : Facts) × Member other tree × (other.path ≡ path) × (other.name ≡ module_name path)
 
 -- The lines of a map that has a tree's lines are the lines of the tree.
 abbrev pub MapsHaveLines : Type 0

@@ -18,7 +18,8 @@ use Rattle.provider_rel.specs.Faces.{modules_of, kernel_of}
 use Rattle.provider_rel.specs.Tree.{IsTree}
 use Rattle.provider_rel.specs.Relation.{relation_fault}
 use Rattle.depmod_core.specs.declared.file.OutputFile.{OutputFile}
-use Rattle.depmod_core.specs.declared.file.OutputFile.TheVariants.{DepBin, AliasBin, Softdep, SymbolsBin, BuiltinBin, Unmet}
+use Rattle.depmod_core.specs.declared.file.OutputFile.TheVariants.{DepBin, AliasBin, Softdep}
+use Rattle.depmod_core.specs.declared.file.OutputFile.TheVariants.{SymbolsBin, BuiltinBin, Unmet}
 use Rattle.depmod_core.specs.declared.files.OutputFiles.{OutputFiles}
 use Rattle.depmod_core.specs.Files.{content, file_name, files, output_fault}
 use Rattle.laws_closed_plans.specs.Members.{Member}
@@ -51,7 +52,8 @@ pub record AreIn (held : Contents) (folder : List ℕ) (made : OutputFiles) : Ty
   pub unmet : IsIn held folder made Unmet
 
 -- A folder is as depmod indexed it, over a kernel, when modules.builtin had these bytes.
-pub record Indexed (held : Contents) (folder : List ℕ) (tree : List Facts) (kernel : Kernel) (builtin : List ℕ) : Type 0 where
+pub record Indexed (held : Contents) (folder : List ℕ) (tree : List Facts) (kernel : Kernel)
+    (builtin : List ℕ) : Type 0 where
   -- The tree is one of valid modules, whose files are in the folder.
   pub is_tree : IsTree tree
   pub modules : (f : Facts) → Member f tree → IsModuleFile held folder f
@@ -65,10 +67,16 @@ pub record Indexed (held : Contents) (folder : List ℕ) (tree : List Facts) (ke
 
 -- What is read from such a folder: each module of the tree as it was, the dependency lines of the
 -- tree, and its lines of modules.unmet.
-pub record ReadsAsIndexed (held : Contents) (folder : List ℕ) (tree : List Facts) (kernel : Kernel) : Type 0 where
-  pub modules : (f : Facts) (bytes : List ℕ) → Member f tree → HasFile held (path_below folder f.path) bytes → (fact_fault f.path bytes ≡ None) × (facts_of f.path bytes ≡ f)
-  pub lines : (bytes : List ℕ) (dep : KeyValues) → HasFile held (path_below folder (file_name DepBin)) bytes → Holds bytes dep → StandsAsIndexed tree kernel dep
-  pub unmet : (path bytes : List ℕ) → HasFile held (path_below folder (file_name Unmet)) bytes → unmet_of path bytes ≡ Ok (unmet (modules_of tree) (kernel_of kernel))
+pub record ReadsAsIndexed (held : Contents) (folder : List ℕ) (tree : List Facts) (kernel : Kernel)
+    : Type 0 where
+  pub modules : (f : Facts) (bytes : List ℕ) → Member f tree
+      → HasFile held (path_below folder f.path) bytes
+      → (fact_fault f.path bytes ≡ None) × (facts_of f.path bytes ≡ f)
+  pub lines : (bytes : List ℕ) (dep : KeyValues)
+      → HasFile held (path_below folder (file_name DepBin)) bytes → Holds bytes dep
+      → StandsAsIndexed tree kernel dep
+  pub unmet : (path bytes : List ℕ) → HasFile held (path_below folder (file_name Unmet)) bytes
+      → unmet_of path bytes ≡ Ok (unmet (modules_of tree) (kernel_of kernel))
 
 -- Folders that are as depmod indexed them are read in this way.
 abbrev pub FoldersReadAsIndexed : Type 0

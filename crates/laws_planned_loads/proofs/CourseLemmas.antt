@@ -1,5 +1,6 @@
 -- The courses of loads over folders that are as depmod indexed them.
-use Rattle.std.proofs.Common.{◌≡◌, ◌∙◌, ◌==◌, ℕ, Bool, true, false, ◌||◌, List, [], ◌∷◌, ◌++◌, length, map, reverse, flat_map, None, refl, sym, ap, subst, arith}
+use Rattle.std.proofs.Common.{◌≡◌, ◌∙◌, ◌==◌, ℕ, Bool, true, false, ◌||◌, List, [], ◌∷◌, ◌++◌}
+use Rattle.std.proofs.Common.{length, map, reverse, flat_map, None, refl, sym, ap, subst, arith}
 use Rattle.std.specs.Prelude.{Option, Some, Result, Ok, Err, IsOk, IfErr, All, not, slice_get}
 use Rattle.std.specs.FinMap.{get}
 use Rattle.std.specs.List.{list_any}
@@ -73,16 +74,20 @@ use Rattle.laws_planned_loads.proofs.ListedLemmas.{listed-are-of-machine, listed
 
 -- ---- modules of names
 
-pub facts-at : (path bytes : List ℕ) (passed : fact_fault path bytes ≡ None) → (module_at path bytes passed).facts ≡ facts_of path bytes
+pub facts-at : (path bytes : List ℕ) (passed : fact_fault path bytes ≡ None)
+    → (module_at path bytes passed).facts ≡ facts_of path bytes
 unfolding module_at
 facts-at path bytes passed = refl
 
-first-value : (vs : List Value) (text : List ℕ) → text_of_first vs ≡ Some text → (v : Value) × (slice_get vs 0 ≡ Some v) × (v.1 ≡ text)
+first-value : (vs : List Value) (text : List ℕ) → text_of_first vs ≡ Some text
+    → (v : Value) × (slice_get vs 0 ≡ Some v) × (v.1 ≡ text)
 first-value [] text is = cc
 first-value (v ∷ vs) text is = (v, refl, cc)
 
 -- the first text of a name in an index is that of the map for which the index stands
-indexed-value : (index : Index) (dep : KeyValues) (name text : List ℕ) → Holds index.nodes dep → first_text index.nodes name ≡ Some text → (v : Value) × (slice_get (values_of dep name) 0 ≡ Some v) × (v.1 ≡ text)
+indexed-value : (index : Index) (dep : KeyValues) (name text : List ℕ) → Holds index.nodes dep
+    → first_text index.nodes name ≡ Some text
+    → (v : Value) × (slice_get (values_of dep name) 0 ≡ Some v) × (v.1 ≡ text)
 unfolding first_text
 indexed-value index dep name text holds is =
     let found = first-value (at index.nodes (root index.nodes) name) text is in
@@ -92,29 +97,36 @@ some-value : (vs : List Value) (v : Value) → slice_get vs 0 ≡ Some v → not
 some-value [] v is = cc
 some-value (w ∷ vs) v is = grind (arith, nat_tests)
 
-module _ (held : Contents) (folder : List ℕ) (index : Index) (dep : KeyValues) (holds : Holds index.nodes dep) where
-  listed-value : (name path : List ℕ) → path_listed index name ≡ Some path → (v : Value) × (slice_get (values_of dep name) 0 ≡ Some v) × (own_path v.1 ≡ path)
+module _ (held : Contents) (folder : List ℕ) (index : Index) (dep : KeyValues)
+    (holds : Holds index.nodes dep) where
+  listed-value : (name path : List ℕ) → path_listed index name ≡ Some path
+      → (v : Value) × (slice_get (values_of dep name) 0 ≡ Some v) × (own_path v.1 ≡ path)
   listed-value name path is =
       let line = listed-line index name path is in
       let v = indexed-value index dep name line.0 holds line.1 in
       (v.0, v.1, ap own_path v.2 ∙ (line-module line.0 path line.2).0)
 
   -- each listed name has a dependency line
-  pub have-values : (names paths : List (List ℕ)) → AreListedPaths index names paths → (name : List ℕ) → is_among names name ≡ true → has_value dep name ≡ true
+  pub have-values : (names paths : List (List ℕ)) → AreListedPaths index names paths
+      → (name : List ℕ) → is_among names name ≡ true → has_value dep name ≡ true
   have-values [] [] are name in' = cc
   have-values [] (path ∷ paths) are name in' = absurd are
   have-values (other ∷ names) [] are name in' = absurd are
   have-values (other ∷ names) (path ∷ paths) are name in' =
       by_same (bytes_eq name other) refl in' (have-values names paths are.1 name)
     where
-      by_same : (b : Bool) → bytes_eq name other ≡ b → (b || is_among names name) ≡ true → (is_among names name ≡ true → has_value dep name ≡ true) → has_value dep name ≡ true
+      by_same : (b : Bool) → bytes_eq name other ≡ b → (b || is_among names name) ≡ true
+          → (is_among names name ≡ true → has_value dep name ≡ true) → has_value dep name ≡ true
       by_same false differ rest later = later rest
       by_same true same rest later =
           let v = listed-value other path are.0 in
-          subst (λ n. has_value dep n ≡ true) (sym ((bytes_eq-Decides name other).0 same)) (some-value (values_of dep other) v.0 v.1)
+          subst (λ n. has_value dep n ≡ true) (sym ((bytes_eq-Decides name other).0 same))
+          (some-value (values_of dep other) v.0 v.1)
 
   -- the modules of listed names are those of the folder
-  pub listed-modules : (names paths : List (List ℕ)) (ms : List Module) → AreListedPaths index names paths → AreFileModules held folder paths ms → AreModulesOf held folder dep names ms
+  pub listed-modules : (names paths : List (List ℕ)) (ms : List Module)
+      → AreListedPaths index names paths → AreFileModules held folder paths ms
+      → AreModulesOf held folder dep names ms
   listed-modules [] [] [] found are = tt
   listed-modules [] [] (m ∷ ms) found are = absurd are
   listed-modules [] (path ∷ paths) ms found are = absurd found
@@ -134,31 +146,40 @@ module _ (held : Contents) (folder : List ℕ) (index : Index) (dep : KeyValues)
 
 -- ---- steps
 
-planned : (o : Option (List ℕ)) (made steps : List PlanStep) → plan_unless o made ≡ value steps → (o ≡ None) × (made ≡ steps)
+planned : (o : Option (List ℕ)) (made steps : List PlanStep) → plan_unless o made ≡ value steps
+    → (o ≡ None) × (made ≡ steps)
 planned None made steps is = (refl, cc)
 planned (Some text) made steps is = cc
 
-pub was-planned : (known : Known) (request : Request) (steps : List PlanStep) → plan_outcome known known.loaded request ≡ value steps → (obstacle_of (sources_with known known.loaded request) request ≡ None) × (plan_steps (sources_with known known.loaded request) request ≡ steps)
+pub was-planned : (known : Known) (request : Request) (steps : List PlanStep)
+    → plan_outcome known known.loaded request ≡ value steps
+    → (obstacle_of (sources_with known known.loaded request) request ≡ None)
+    × (plan_steps (sources_with known known.loaded request) request ≡ steps)
 unfolding plan_outcome
 was-planned known request steps is =
     let s = sources_with known known.loaded request in
     let h = planned (first_obstacle_text s request) (plan_steps s request) steps is in
     (no-obstacle s request h.0, h.1)
 
-installed : (o : Option (List ℕ)) (made inserts : List Insertion) → unless_install o made ≡ value inserts → (o ≡ None) × (made ≡ inserts)
+installed : (o : Option (List ℕ)) (made inserts : List Insertion)
+    → unless_install o made ≡ value inserts → (o ≡ None) × (made ≡ inserts)
 installed None made inserts is = (refl, cc)
 installed (Some name) made inserts is = cc
 
-pub were-given : (steps : List PlanStep) (inserts : List Insertion) → inserts_outcome steps ≡ value inserts → (first (map command_owner steps) ≡ None) × (flat_map inserted steps ≡ inserts)
+pub were-given : (steps : List PlanStep) (inserts : List Insertion)
+    → inserts_outcome steps ≡ value inserts
+    → (first (map command_owner steps) ≡ None) × (flat_map inserted steps ≡ inserts)
 unfolding inserts_outcome
-were-given steps inserts is = installed (first (map command_owner steps)) (flat_map inserted steps) inserts is
+were-given steps inserts is =
+    installed (first (map command_owner steps)) (flat_map inserted steps) inserts is
 
 owner-none : (step : PlanStep) → command_owner step ≡ None → runs_command step ≡ false
 owner-none (Insert name path options) is = refl
 owner-none (Install name command) is = cc
 owner-none (Builtin name) is = refl
 
-none-runs : (steps : List PlanStep) → first (map command_owner steps) ≡ None → list_any runs_command steps ≡ false
+none-runs : (steps : List PlanStep) → first (map command_owner steps) ≡ None
+    → list_any runs_command steps ≡ false
 none-runs [] is = refl
 none-runs (step ∷ steps) is =
     let h = first-none (command_owner step) (map command_owner steps) is in
@@ -167,12 +188,15 @@ none-runs (step ∷ steps) is =
 -- ---- the folder
 
 -- the modules that steps load
-pub record ArePlanned (held : Contents) (folder : List ℕ) (dep : KeyValues) (steps : List PlanStep) : Type 0 where
+pub record ArePlanned (held : Contents) (folder : List ℕ) (dep : KeyValues) (steps : List PlanStep)
+    : Type 0 where
   pub plan : List Module
   pub of_names : AreModulesOf held folder dep (inserted_names steps) plan
   pub of_files : AreFileModules held folder (paths_of (flat_map inserted steps)) plan
 
-module _ (held : Contents) (folder : List ℕ) (tree : List Facts) (kernel : Kernel) (builtin : List ℕ) (indexed : Indexed held folder tree kernel builtin) (known : Known) (knows : KnowsFolder held folder known) where
+module _ (held : Contents) (folder : List ℕ) (tree : List Facts) (kernel : Kernel)
+    (builtin : List ℕ) (indexed : Indexed held folder tree kernel builtin) (known : Known)
+    (knows : KnowsFolder held folder known) where
   abbrev dep : KeyValues
   dep = known_lines known
 
@@ -180,13 +204,16 @@ module _ (held : Contents) (folder : List ℕ) (tree : List Facts) (kernel : Ker
   nodes-are = ap (λ (x : Index). x.nodes) knows.is_index
 
   pub holds : Holds known.indexes.dep.nodes dep
-  holds = subst (λ b. Holds b (contents b)) (sym nodes-are) (contents-held knows.index knows.accepted)
+  holds
+      = subst (λ b. Holds b (contents b)) (sym nodes-are) (contents-held knows.index knows.accepted)
 
   unmet-there : HasFile held (path_below folder (file_name Unmet)) knows.text
   unmet-there =
       let made = files tree (kernel_of kernel) builtin in
       let same : knows.text ≡ content made Unmet =
-      read-there (value []) (path_below folder (file_name Unmet)) (get held (path_below folder (file_name Unmet))) knows.text (content made Unmet) indexed.made.unmet knows.text_read in
+      read-there (value []) (path_below folder (file_name Unmet))
+      (get held (path_below folder (file_name Unmet))) knows.text (content made Unmet)
+      indexed.made.unmet knows.text_read in
       indexed.made.unmet ∙ ap Some (sym same)
 
   -- what was read of the folder
@@ -194,24 +221,31 @@ module _ (held : Contents) (folder : List ℕ) (tree : List Facts) (kernel : Ker
   is-read = record {
     index = knows.index;
     index_there = knows.index_there;
-    index_holds = subst (λ b. Holds knows.index (contents b)) (sym nodes-are) (contents-held knows.index knows.accepted);
+    index_holds
+        = subst (λ b. Holds knows.index (contents b)) (sym nodes-are)
+        (contents-held knows.index knows.accepted);
     text = knows.text;
     text_there = unmet-there;
     text_states = knows.states;
   }
 
   stands : StandsAsIndexed tree kernel dep
-  stands = (folders-read held folder tree kernel builtin indexed).lines is-read.index dep is-read.index_there is-read.index_holds
+  stands
+      = (folders-read held folder tree kernel builtin indexed).lines is-read.index dep
+      is-read.index_there is-read.index_holds
 
   -- the module at the first path of the dependency line of a name is that of a valid file
-  own-module : (name path : List ℕ) → IsOwnPath dep name path → (m : Module) × IsModuleOf held folder dep name m × IsFileModule held folder path m
+  own-module : (name path : List ℕ) → IsOwnPath dep name path
+      → (m : Module) × IsModuleOf held folder dep name m × IsFileModule held folder path m
   own-module name path own =
       let line = (lines-are-of-tree tree kernel dep stands).0 name own.value own.first in
       let f = line.owner in
       let at_path : f.path ≡ path = sym line.own ∙ own.own in
       let file = indexed.modules f line.in_tree in
-      let there : HasFile held (path_below folder path) file.bytes = subst (λ p. HasFile held (path_below folder p) file.bytes) at_path file.there in
-      let passed : fact_fault path file.bytes ≡ None = subst (λ p. fact_fault p file.bytes ≡ None) at_path file.passed in (
+      let there : HasFile held (path_below folder path) file.bytes
+      = subst (λ p. HasFile held (path_below folder p) file.bytes) at_path file.there in
+      let passed : fact_fault path file.bytes ≡ None
+      = subst (λ p. fact_fault p file.bytes ≡ None) at_path file.passed in (
         module_at path file.bytes passed,
         record {
           path = path;
@@ -230,12 +264,20 @@ module _ (held : Contents) (folder : List ℕ) (tree : List Facts) (kernel : Ker
       )
 
   -- so are those of steps
-  pub step-modules : (steps : List PlanStep) → All (IsAtOwnPath dep) steps → ArePlanned held folder dep steps
+  pub step-modules : (steps : List PlanStep) → All (IsAtOwnPath dep) steps
+      → ArePlanned held folder dep steps
   step-modules [] all = record { plan = []; of_names = tt; of_files = tt }
   step-modules (Insert name path options ∷ steps) all =
-      let own = own-module name path (All-head (IsAtOwnPath dep) (Insert name path options) steps all) in
-      let rest = step-modules steps (All-tail (IsAtOwnPath dep) (Insert name path options) steps all) in
-      record { plan = own.0 ∷ rest.plan; of_names = (own.1, rest.of_names); of_files = (own.2, rest.of_files) }
+      let own
+      = own-module name path (All-head (IsAtOwnPath dep) (Insert name path options) steps all)
+      in
+      let rest
+      = step-modules steps (All-tail (IsAtOwnPath dep) (Insert name path options) steps all) in
+      record {
+        plan = own.0 ∷ rest.plan;
+        of_names = (own.1, rest.of_names);
+        of_files = (own.2, rest.of_files);
+      }
   step-modules (Install name command ∷ steps) all =
       let rest = step-modules steps (All-tail (IsAtOwnPath dep) (Install name command) steps all) in
       record { plan = rest.plan; of_names = rest.of_names; of_files = rest.of_files }
@@ -259,18 +301,27 @@ courses-bind held inputs l as_indexed came =
     let lines = known_lines known in
     let holding = holds held folder l.tree l.indexed l.builtin indexed known knows in
     let start = new_machine l.kernel l.region in
-    let loads = listed-are-of-machine held folder known.indexes.dep start known.loaded l.listed came.listed in
+    let loads
+    = listed-are-of-machine held folder known.indexes.dep start known.loaded l.listed
+    came.listed in
     let listed = loads.listed in
     let of_listed : AreModulesOf held folder lines (reverse known.loaded) listed =
-    listed-modules held folder known.indexes.dep lines holding (reverse known.loaded) loads.paths listed loads.found loads.files in
+    listed-modules held folder known.indexes.dep lines holding (reverse known.loaded) loads.paths
+    listed loads.found loads.files in
     let made = was-planned known inputs.request steps came.planned in
     let given' = were-given steps l.inserts came.runs_none in
     let s = sources_with known known.loaded inputs.request in
-    let valued : (name : List ℕ) → is_among known.loaded name ≡ true → has_value lines name ≡ true = λ name in'.
-    have-values held folder known.indexes.dep lines holding (reverse known.loaded) loads.paths loads.found name (among-reversed known.loaded name ∙ in') in
-    let runs : list_any runs_command (plan_steps s inputs.request) ≡ false = ap (list_any runs_command) made.1 ∙ none-runs steps given'.0 in
-    let closing : AreClosedSteps s steps = subst (AreClosedSteps s) made.1 (plans-closed s inputs.request made.0 runs valued) in
-    let modules = step-modules held folder l.tree l.indexed l.builtin indexed known knows steps closing.own_paths in
+    let valued : (name : List ℕ) → is_among known.loaded name ≡ true → has_value lines name ≡ true
+    = λ name in'.
+    have-values held folder known.indexes.dep lines holding (reverse known.loaded) loads.paths
+    loads.found name (among-reversed known.loaded name ∙ in') in
+    let runs : list_any runs_command (plan_steps s inputs.request) ≡ false
+    = ap (list_any runs_command) made.1 ∙ none-runs steps given'.0 in
+    let closing : AreClosedSteps s steps
+    = subst (AreClosedSteps s) made.1 (plans-closed s inputs.request made.0 runs valued) in
+    let modules
+    = step-modules held folder l.tree l.indexed l.builtin indexed known knows steps
+    closing.own_paths in
     record {
       listed = listed;
       plan = modules.plan;
@@ -279,16 +330,25 @@ courses-bind held inputs l as_indexed came =
       listed_paths = loads.paths;
       listed_lines = loads.found;
       listed_files = loads.files;
-      plan_files = subst (λ is. AreFileModules held folder (paths_of is) modules.plan) given'.1 modules.of_files;
+      plan_files
+          = subst (λ is. AreFileModules held folder (paths_of is) modules.plan) given'.1
+          modules.of_files;
       listed_load = loads.loaded;
       binds =
-          folders-bind held folder l.tree l.indexed l.builtin lines known.unmet indexed (is-read held folder l.tree l.indexed l.builtin indexed known knows) l.kernel l.region (reverse known.loaded) (inserted_names steps) listed modules.plan as_indexed.same_table of_listed modules.of_names
+          folders-bind held folder l.tree l.indexed l.builtin lines known.unmet indexed
+          (is-read held folder l.tree l.indexed l.builtin indexed known knows) l.kernel l.region
+          (reverse known.loaded) (inserted_names steps) listed modules.plan
+          as_indexed.same_table of_listed modules.of_names
           (loaded-ok (load_all start listed) l.listed loads.loaded)
-          (closed-reversed (lines_of_map lines) known.unmet known.loaded (inserted_names steps) closing.closed);
+          (closed-reversed (lines_of_map lines) known.unmet known.loaded (inserted_names steps)
+          closing.closed);
     }
 
 -- after the listed modules the plan is refused for its place alone
-pub plan-placed : (addressed : Kernel) (region : Region) (listed plan : List Module) (machine : Machine) → Binds addressed region listed plan → IsLoaded addressed region listed machine → IfErr (load_all machine plan) IsPlaceFault
+pub plan-placed : (addressed : Kernel) (region : Region) (listed plan : List Module)
+    (machine : Machine)
+    → Binds addressed region listed plan → IsLoaded addressed region listed machine
+    → IfErr (load_all machine plan) IsPlaceFault
 plan-placed addressed region listed plan machine binds loaded =
     let start = new_machine addressed region in
     let after_listed : load_all start (listed ++ plan) ≡ load_all machine plan =

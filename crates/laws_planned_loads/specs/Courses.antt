@@ -49,7 +49,8 @@ known_lines known = contents known.indexes.dep.nodes
 
 -- The folder is as depmod indexed it; and the kernel of the machine has the table that was indexed,
 -- with addresses.
-pub record IsIndexedFor (held : Contents) (folder : List ℕ) (tree : List Facts) (kernel : Kernel) (builtin : List ℕ) (addressed : Kernel) : Type 0 where
+pub record IsIndexedFor (held : Contents) (folder : List ℕ) (tree : List Facts) (kernel : Kernel)
+    (builtin : List ℕ) (addressed : Kernel) : Type 0 where
   pub indexed : Indexed held folder tree kernel builtin
   pub same_table : kernel_of addressed ≡ kernel_of kernel
 
@@ -92,8 +93,11 @@ pub record Loading : Type 0 where
 -- A course got past its reading, over these files, and came to these loads. The request has a plan
 -- without a step that runs a command.
 pub record CameToLoads (held : Contents) (inputs : LoadInputs) (l : Loading) : Type 0 where
-  pub knows : ((reads_known inputs.config inputs.folder inputs.listing).run held).outcome ≡ value l.known
-  pub listed : ((loads_listed inputs.folder l.known.indexes.dep (new_machine l.kernel l.region) l.known.loaded).run held).outcome ≡ value l.listed
+  pub knows : ((reads_known inputs.config inputs.folder inputs.listing).run held).outcome
+      ≡ value l.known
+  pub listed : ((loads_listed inputs.folder l.known.indexes.dep (new_machine l.kernel l.region)
+      l.known.loaded).run held).outcome
+      ≡ value l.listed
   pub planned : plan_outcome l.known l.known.loaded inputs.request ≡ value l.steps
   pub runs_none : inserts_outcome l.steps ≡ value l.inserts
 
@@ -104,18 +108,24 @@ ended (end e) = end e
 
 -- A course is one of loads: files are read, and the lines of the plan are printed. Then what its
 -- steps load goes into the machine, and nothing more is done.
-pub record IsLoadingCourse (held : Contents) (folder : List ℕ) (images : Images) (l : Loading) (run : Run ⊤) : Type 0 where
+pub record IsLoadingCourse (held : Contents) (folder : List ℕ) (images : Images) (l : Loading)
+    (run : Run ⊤) : Type 0 where
   pub before : List Act
   pub reads : list_all is_reading before ≡ true
-  pub acts : run.acts ≡ before ++ (said (plan_lines folder l.steps) ++ ((loads_all folder images l.listed l.inserts).run held).acts)
+  pub acts : run.acts
+      ≡ before
+      ++ (said (plan_lines folder l.steps)
+      ++ ((loads_all folder images l.listed l.inserts).run held).acts)
   pub outcome : run.outcome ≡ ended ((loads_all folder images l.listed l.inserts).run held).outcome
 
 -- What is asked for has a System.map and a region, and the machine of the kernel is made of these.
-pub record HasMachine (held : Contents) (asked : ModprobeWords) (addressed : Kernel) (region : Region) : Type 0 where
+pub record HasMachine (held : Contents) (asked : ModprobeWords) (addressed : Kernel)
+    (region : Region) : Type 0 where
   pub map : List ℕ
   pub mapped : asked.system_map ≡ Some map
   pub in_region : region_asked asked ≡ region
-  pub made : ((reads_machine map asked.symvers region).run held).outcome ≡ value (new_machine addressed region)
+  pub made : ((reads_machine map asked.symvers region).run held).outcome
+      ≡ value (new_machine addressed region)
 
 -- A course that got past its reading is one of loads, over any files.
 abbrev pub CoursesLoad : Type 0
@@ -123,7 +133,8 @@ CoursesLoad =
     (held : Contents) (asked : ModprobeWords) (l : Loading)
     → (has : HasMachine held asked l.kernel l.region)
     → CameToLoads held (inputs_of asked) l
-    → IsLoadingCourse held (modules_folder asked.dirname asked.version) (images_asked asked) l ((loads_plan asked has.map).run held)
+    → IsLoadingCourse held (modules_folder asked.dirname asked.version) (images_asked asked) l
+    ((loads_plan asked has.map).run held)
 
 -- The loads of such a course bind.
 pub record CourseBinds (held : Contents) (folder : List ℕ) (l : Loading) : Type 0 where
@@ -158,14 +169,18 @@ CoursesBind =
 -- be written.
 pub data IsEndOfLoads (params : Bool) : Outcome ⊤ → Type 0 where
   all_loaded : IsEndOfLoads params (value tt)
-  no_place : (name : List ℕ) (fault : LoadFault) → IsPlaceFault fault → IsEndOfLoads params (end (Refused (LoadRefused name (load_fault_text fault))))
-  unwritten : (w : WentIn) (fault : ParamFault) → params ≡ true → fault_of w ≡ Some fault → IsEndOfLoads params (end (Refused (ParamsRefused w.entry.loaded.name (param_fault_text fault))))
+  no_place : (name : List ℕ) (fault : LoadFault) → IsPlaceFault fault
+      → IsEndOfLoads params (end (Refused (LoadRefused name (load_fault_text fault))))
+  unwritten : (w : WentIn) (fault : ParamFault) → params ≡ true → fault_of w ≡ Some fault
+      → IsEndOfLoads params
+      (end (Refused (ParamsRefused w.entry.loaded.name (param_fault_text fault))))
 
 -- So the whole course of such a modprobe ends for nothing else.
 abbrev pub CoursesEnd : Type 0
 CoursesEnd =
     (held : Contents) (asked : ModprobeWords) (l : Loading)
-    → IsIndexedFor held (modules_folder asked.dirname asked.version) l.tree l.indexed l.builtin l.kernel
+    → IsIndexedFor held (modules_folder asked.dirname asked.version) l.tree l.indexed l.builtin
+    l.kernel
     → (has : HasMachine held asked l.kernel l.region)
     → CameToLoads held (inputs_of asked) l
     → IsEndOfLoads asked.params ((loads_plan asked has.map).run held).outcome

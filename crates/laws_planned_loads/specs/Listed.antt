@@ -29,7 +29,8 @@ AreListedPaths index (name ∷ names) (path ∷ paths) =
 
 -- The modules of names went into a machine, one after the other: each was read of its file, and
 -- nothing else was done.
-pub record ListedGoIn (held : Contents) (folder : List ℕ) (index : Index) (machine : Machine) (names : List (List ℕ)) (after : Machine) (run : Run Machine) : Type 0 where
+pub record ListedGoIn (held : Contents) (folder : List ℕ) (index : Index) (machine : Machine)
+    (names : List (List ℕ)) (after : Machine) (run : Run Machine) : Type 0 where
   pub paths : List (List ℕ)
   pub listed : List Module
   pub found : AreListedPaths index names paths
@@ -41,12 +42,15 @@ pub record ListedGoIn (held : Contents) (folder : List ℕ) (index : Index) (mac
 -- of the list first.
 abbrev pub ListedAreOfMachine : Type 0
 ListedAreOfMachine =
-    (held : Contents) (folder : List ℕ) (index : Index) (machine : Machine) (names : List (List ℕ)) (after : Machine)
+    (held : Contents) (folder : List ℕ) (index : Index) (machine : Machine) (names : List (List ℕ))
+    (after : Machine)
     → ((loads_listed folder index machine names).run held).outcome ≡ value after
-    → ListedGoIn held folder index machine (reverse names) after ((loads_listed folder index machine names).run held)
+    → ListedGoIn held folder index machine (reverse names) after
+    ((loads_listed folder index machine names).run held)
 
 -- One of the listed modules was refused, and that is reported.
-pub record ListedIsRefused (machine : Machine) (ms : List Module) (fault : LoadFault) (run : Run Machine) : Type 0 where
+pub record ListedIsRefused (machine : Machine) (ms : List Module) (fault : LoadFault)
+    (run : Run Machine) : Type 0 where
   pub first : IsFirstRefused machine ms fault
   pub tells : run.outcome ≡ end (Refused (ListedRefused first.m.facts.name (load_fault_text fault)))
 
@@ -54,12 +58,14 @@ pub record ListedIsRefused (machine : Machine) (ms : List Module) (fault : LoadF
 -- other, all go in. Otherwise the first refusal is reported.
 pub record AreListedLoads (machine : Machine) (ms : List Module) (run : Run Machine) : Type 0 where
   pub loaded : (after : Machine) → load_all machine ms ≡ Ok after → run.outcome ≡ value after
-  pub stopped : (fault : LoadFault) → load_all machine ms ≡ Err fault → ListedIsRefused machine ms fault run
+  pub stopped : (fault : LoadFault) → load_all machine ms ≡ Err fault
+      → ListedIsRefused machine ms fault run
 
 -- Over files of valid modules the loads of listed modules in a course are the machine's loads.
 abbrev pub ListedLoadsAreOfMachine : Type 0
 ListedLoadsAreOfMachine =
-    (held : Contents) (folder : List ℕ) (index : Index) (machine : Machine) (names paths : List (List ℕ)) (ms : List Module)
+    (held : Contents) (folder : List ℕ) (index : Index) (machine : Machine)
+    (names paths : List (List ℕ)) (ms : List Module)
     → AreListedPaths index (reverse names) paths
     → AreFileModules held folder paths ms
     → AreListedLoads machine ms ((loads_listed folder index machine names).run held)

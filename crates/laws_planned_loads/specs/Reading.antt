@@ -9,7 +9,8 @@ use Rattle.km_course.specs.Course.{Outcome}
 use Rattle.km_course.specs.Course.Outcome.{value, end}
 use Rattle.km_course.specs.declared.end.End.{End}
 use Rattle.km_course.specs.declared.end.End.TheVariants.{Refused}
-use Rattle.km_course.specs.declared.refusal.Refusal.TheVariants.{Obstacle as Unplanned, BadIndex, BadLine}
+use Rattle.km_course.specs.declared.refusal.Refusal.TheVariants.{Obstacle as Unplanned, BadIndex}
+use Rattle.km_course.specs.declared.refusal.Refusal.TheVariants.{BadLine}
 use Rattle.plan_builder.specs.Obstacles.{bad_dep_line}
 use Rattle.plan_builder.specs.Text.{plan_text}
 use Rattle.modprobe_conf.specs.declared.rule.Rule.{Rule}
@@ -29,7 +30,8 @@ use Rattle.stages_files.specs.declared.configuration.Tool.TheVariants.{Modprobe}
 use Rattle.stages_files.specs.IndexFile.{index_of}
 use Rattle.stages_files.specs.KernelModules.{modules_folder}
 use Rattle.stages_known.specs.declared.known.Known.{Known}
-use Rattle.stages_known.specs.Known.{reads_indexes, reads_known, reads_loaded, reads_rules, reads_unmet}
+use Rattle.stages_known.specs.Known.{reads_indexes, reads_known, reads_loaded, reads_rules}
+use Rattle.stages_known.specs.Known.{reads_unmet}
 use Rattle.command_modprobe.specs.Modprobe.{modprobe_in_mode}
 
 -- The indexes in files of depmod's.
@@ -56,11 +58,15 @@ softdep_rules tree = flat_map (λ (f : Facts). map (softdep_of f.name) (softdeps
 -- - its indexes, which stand for the maps of the tree;
 -- - the rules of a configuration, followed by the rules of the tree's soft dependencies;
 -- - the lines of modules.unmet.
-pub record IsFolderRead (held : Contents) (folder : List ℕ) (tree : List Facts) (kernel : Kernel) (builtin : List ℕ) : Type 0 where
-  pub indexes : ((reads_indexes folder).run held).outcome ≡ value (indexes_of (files tree (kernel_of kernel) builtin))
+pub record IsFolderRead (held : Contents) (folder : List ℕ) (tree : List Facts) (kernel : Kernel)
+    (builtin : List ℕ) : Type 0 where
+  pub indexes : ((reads_indexes folder).run held).outcome
+      ≡ value (indexes_of (files tree (kernel_of kernel) builtin))
   pub stand : StandFor tree (kernel_of kernel) builtin (files tree (kernel_of kernel) builtin)
-  pub softdep : (stated : List Rule) → ((reads_rules stated folder).run held).outcome ≡ value (stated ++ softdep_rules tree)
-  pub unmet : ((reads_unmet folder).run held).outcome ≡ value (unmet (modules_of tree) (kernel_of kernel))
+  pub softdep : (stated : List Rule)
+      → ((reads_rules stated folder).run held).outcome ≡ value (stated ++ softdep_rules tree)
+  pub unmet : ((reads_unmet folder).run held).outcome
+      ≡ value (unmet (modules_of tree) (kernel_of kernel))
 
 -- A folder that is as depmod indexed it is read in this way: none of its files is refused.
 abbrev pub FoldersAreRead : Type 0
@@ -80,11 +86,23 @@ known_of tree kernel builtin stated loaded = record {
 
 -- What the reading before a lookup results in: an end for the configuration or for the list of
 -- loaded modules, or what is known of the tree.
-pub data IsReading (held : Contents) (config listing : Option (List ℕ)) (tree : List Facts) (kernel : Kernel) (builtin : List ℕ) : Outcome Known → Type 0 where
-  no_configuration : (e : End) → ((reads_configuration Modprobe config).run held).outcome ≡ end e → IsReading held config listing tree kernel builtin (end e)
-  bad_configuration : (configuration : List ConfFile) (e : End) → ((reads_configuration Modprobe config).run held).outcome ≡ value configuration → stated_outcome (rules_of configuration) ≡ end e → IsReading held config listing tree kernel builtin (end e)
-  no_list : (e : End) → ((reads_loaded listing).run held).outcome ≡ end e → IsReading held config listing tree kernel builtin (end e)
-  is_known : (configuration : List ConfFile) (stated : List Rule) (loaded : List (List ℕ)) → ((reads_configuration Modprobe config).run held).outcome ≡ value configuration → rules_of configuration ≡ Ok stated → ((reads_loaded listing).run held).outcome ≡ value loaded → IsReading held config listing tree kernel builtin (value (known_of tree kernel builtin stated loaded))
+pub data IsReading (held : Contents) (config listing : Option (List ℕ)) (tree : List Facts)
+    (kernel : Kernel) (builtin : List ℕ) : Outcome Known
+    → Type 0 where
+  no_configuration : (e : End) → ((reads_configuration Modprobe config).run held).outcome ≡ end e
+      → IsReading held config listing tree kernel builtin (end e)
+  bad_configuration : (configuration : List ConfFile) (e : End)
+      → ((reads_configuration Modprobe config).run held).outcome ≡ value configuration
+      → stated_outcome (rules_of configuration) ≡ end e
+      → IsReading held config listing tree kernel builtin (end e)
+  no_list : (e : End) → ((reads_loaded listing).run held).outcome ≡ end e
+      → IsReading held config listing tree kernel builtin (end e)
+  is_known : (configuration : List ConfFile) (stated : List Rule) (loaded : List (List ℕ))
+      → ((reads_configuration Modprobe config).run held).outcome ≡ value configuration
+      → rules_of configuration ≡ Ok stated
+      → ((reads_loaded listing).run held).outcome ≡ value loaded
+      → IsReading held config listing tree kernel builtin
+      (value (known_of tree kernel builtin stated loaded))
 
 -- Over a folder that is as depmod indexed it, that is all that the reading results in.
 abbrev pub ReadingsEnd : Type 0
@@ -92,20 +110,26 @@ ReadingsEnd =
     (held : Contents) (folder : List ℕ) (tree : List Facts) (kernel : Kernel) (builtin : List ℕ)
     → Indexed held folder tree kernel builtin
     → (config listing : Option (List ℕ))
-    → IsReading held config listing tree kernel builtin ((reads_known config folder listing).run held).outcome
+    → IsReading held config listing tree kernel builtin
+    ((reads_known config folder listing).run held).outcome
 
 -- A line that isn't understood is one of the configuration, or of the System.map or the
 -- Module.symvers that was named.
-pub data IsOtherLine (held : Contents) (asked : ModprobeWords) (file : List ℕ) (number : ℕ) : Type 0 where
-  of_configuration : (configuration : List ConfFile) → ((reads_configuration Modprobe asked.config).run held).outcome ≡ value configuration → rules_of configuration ≡ Err (record { file = file; number = number }) → IsOtherLine held asked file number
-  of_map : asked.system_map ≡ Some file → IsOtherLine held asked file number
-  of_symvers : asked.symvers ≡ Some file → IsOtherLine held asked file number
+pub data IsOtherLine (held : Contents) (asked : ModprobeWords) (file : List ℕ) (number : ℕ) : Type 0
+  where
+    of_configuration : (configuration : List ConfFile)
+        → ((reads_configuration Modprobe asked.config).run held).outcome ≡ value configuration
+        → rules_of configuration ≡ Err (record { file = file; number = number })
+        → IsOtherLine held asked file number
+    of_map : asked.system_map ≡ Some file → IsOtherLine held asked file number
+    of_symvers : asked.symvers ≡ Some file → IsOtherLine held asked file number
 
 -- An end is for no file that depmod wrote: it is for no index and for no dependency line, and a
 -- line that isn't understood is another's.
 abbrev pub IsOtherEnd : Contents → ModprobeWords → End → Type 0
 IsOtherEnd held asked (Refused (BadIndex file text)) = ⊥
-IsOtherEnd held asked (Refused (Unplanned text)) = (name : List ℕ) → text ≡ plan_text (bad_dep_line name) → ⊥
+IsOtherEnd held asked (Refused (Unplanned text)) =
+    (name : List ℕ) → text ≡ plan_text (bad_dep_line name) → ⊥
 IsOtherEnd held asked (Refused (BadLine file number)) = IsOtherLine held asked file number
 IsOtherEnd held asked _ = ⊤
 
@@ -113,7 +137,8 @@ IsOtherEnd held asked _ = ⊤
 -- ends before its last act.
 abbrev pub CoursesPass : Type 0
 CoursesPass =
-    (held : Contents) (asked : ModprobeWords) (tree : List Facts) (kernel : Kernel) (builtin : List ℕ)
+    (held : Contents) (asked : ModprobeWords) (tree : List Facts) (kernel : Kernel)
+    (builtin : List ℕ)
     → Indexed held (modules_folder asked.dirname asked.version) tree kernel builtin
     → (e : End)
     → ((modprobe_in_mode asked.mode asked asked.fits).run held).outcome ≡ end e

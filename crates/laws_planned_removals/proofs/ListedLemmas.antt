@@ -26,7 +26,8 @@ use Rattle.stages_loads.proofs.ModuleSteps.{checked}
 use Rattle.laws_closed_plans.specs.Loads.{load_all, unless_refused}
 use Rattle.laws_planned_loads.specs.Files.{IsFileModule}
 use Rattle.laws_planned_loads.proofs.FileLemmas.{line-module, module-read}
-use Rattle.laws_planned_loads.proofs.RunLemmas.{OnlyReads, goes-on, reads-each, reads-file, reads-given, reads-then, reads-when}
+use Rattle.laws_planned_loads.proofs.RunLemmas.{OnlyReads, goes-on, reads-each, reads-file}
+use Rattle.laws_planned_loads.proofs.RunLemmas.{reads-given, reads-then, reads-when}
 use Rattle.command_remove.specs.Listed.{takes_listed, takes_listed_one, well_formed_path}
 use Rattle.laws_planned_removals.specs.Listed.{AreTaken, ListedAreTaken}
 use Rattle.laws_planned_loads.proofs.ListedLemmas.{path-given, stepped}
@@ -36,44 +37,65 @@ use Rattle.laws_planned_loads.proofs.ListedLemmas.{path-given, stepped}
 pub only-module : (folder path : List ℕ) → OnlyReads (reads_module folder path)
 only-module folder path =
     let file = path_below folder path in
-    reads-when (is_compressed path) (ends (Refused (Compressed file))) (reads file >>= checked file path)
+    reads-when (is_compressed path) (ends (Refused (Compressed file)))
+    (reads file >>= checked file path)
     (reads-given _)
-    (reads-then (reads file) (checked file path) (reads-file (end (NoFile file)) file) (λ bytes. reads-given _))
+    (reads-then (reads file) (checked file path) (reads-file (end (NoFile file)) file)
+    (λ bytes. reads-given _))
 
-only-at : (folder : List ℕ) (machine : Machine) (name : List ℕ) (found : Option (List ℕ)) → OnlyReads (loads_listed_at folder machine name found)
+only-at : (folder : List ℕ) (machine : Machine) (name : List ℕ) (found : Option (List ℕ))
+    → OnlyReads (loads_listed_at folder machine name found)
 only-at folder machine name found =
-    reads-then (given (listed_outcome name found)) (listed_found folder machine) (reads-given _) (λ path.
-    reads-then (reads_module folder path) (listed_read machine) (only-module folder path) (λ m. reads-given _))
+    reads-then (given (listed_outcome name found)) (listed_found folder machine) (reads-given _) (λ
+    path.
+    reads-then (reads_module folder path) (listed_read machine) (only-module folder path)
+    (λ m. reads-given _))
 
-pub only-taken : (folder : List ℕ) (indexes : Indexes) (machine : Machine) (names : List (List ℕ)) → OnlyReads (takes_listed folder indexes machine names)
+pub only-taken : (folder : List ℕ) (indexes : Indexes) (machine : Machine) (names : List (List ℕ))
+    → OnlyReads (takes_listed folder indexes machine names)
 only-taken folder indexes machine names =
-    reads-each (takes_listed_one folder indexes) (λ before name. only-at folder before name (well_formed_path indexes name)) machine (reverse names)
+    reads-each (takes_listed_one folder indexes)
+    (λ before name. only-at folder before name (well_formed_path indexes name)) machine
+    (reverse names)
 
 -- ---- the modules
 
-line-of : (o : Option (List ℕ)) (path : List ℕ) → option_and_then line_path o ≡ Some path → (text : List ℕ) × (line_path text ≡ Some path)
+line-of : (o : Option (List ℕ)) (path : List ℕ) → option_and_then line_path o ≡ Some path
+    → (text : List ℕ) × (line_path text ≡ Some path)
 line-of None path is = cc
 line-of (Some text) path is = (text, is)
 
-where-well_formed : (b : Bool) (o : Option (List ℕ)) (path : List ℕ) → cond b o None ≡ Some path → o ≡ Some path
+where-well_formed : (b : Bool) (o : Option (List ℕ)) (path : List ℕ) → cond b o None ≡ Some path
+    → o ≡ Some path
 where-well_formed true o path is = is
 where-well_formed false o path is = cc
 
-record OneTaken (files : Contents) (folder : List ℕ) (indexes : Indexes) (machine : Machine) (name : List ℕ) (next : Machine) : Type 0 where
+record OneTaken (files : Contents) (folder : List ℕ) (indexes : Indexes) (machine : Machine)
+    (name : List ℕ) (next : Machine) : Type 0 where
   path : List ℕ
   m : Module
   found : well_formed_path indexes name ≡ Some path
   file : IsFileModule files folder path m
   took : step machine m ≡ Ok next
-  acts : ((takes_listed_one folder indexes machine name).run files).acts ≡ read (path_below folder path) ∷ []
+  acts : ((takes_listed_one folder indexes machine name).run files).acts
+      ≡ read (path_below folder path) ∷ []
 
-one-taken : (files : Contents) (folder : List ℕ) (indexes : Indexes) (machine : Machine) (name : List ℕ) (next : Machine) → ((takes_listed_one folder indexes machine name).run files).outcome ≡ value next → OneTaken files folder indexes machine name next
+one-taken : (files : Contents) (folder : List ℕ) (indexes : Indexes) (machine : Machine)
+    (name : List ℕ) (next : Machine)
+    → ((takes_listed_one folder indexes machine name).run files).outcome ≡ value next
+    → OneTaken files folder indexes machine name next
 unfolding given
 one-taken files folder indexes machine name next is =
-    let h = goes-on (given (listed_outcome name (well_formed_path indexes name))) (listed_found folder machine) files next is in
+    let h
+    = goes-on (given (listed_outcome name (well_formed_path indexes name)))
+    (listed_found folder machine) files next is in
     let path : List ℕ = h.mid in
-    let found : well_formed_path indexes name ≡ Some path = path-given name (well_formed_path indexes name) path h.first in
-    let line = line-of (first_text indexes.dep.nodes name) path (where-well_formed (is_well_formed (contents indexes.dep.nodes) name) (path_listed indexes.dep name) path found) in
+    let found : well_formed_path indexes name ≡ Some path
+    = path-given name (well_formed_path indexes name) path h.first in
+    let line
+    = line-of (first_text indexes.dep.nodes name) path
+    (where-well_formed (is_well_formed (contents indexes.dep.nodes) name)
+    (path_listed indexes.dep name) path found) in
     let kind : is_module_path path ≡ true = (line-module line.0 path line.1).1 in
     let g = goes-on (reads_module folder path) (listed_read machine) files next h.rest in
     let m : Module = g.mid in
@@ -87,7 +109,10 @@ one-taken files folder indexes machine name next is =
       acts = h.acts ∙ g.acts ∙ ap (λ done. done ++ []) file.acts;
     }
 
-all-taken : (folder : List ℕ) (indexes : Indexes) (names : List (List ℕ)) (machine : Machine) (files : Contents) (last : Machine) → ((each_from (takes_listed_one folder indexes) machine names).run files).outcome ≡ value last → AreTaken files folder indexes machine names last
+all-taken : (folder : List ℕ) (indexes : Indexes) (names : List (List ℕ)) (machine : Machine)
+    (files : Contents) (last : Machine)
+    → ((each_from (takes_listed_one folder indexes) machine names).run files).outcome ≡ value last
+    → AreTaken files folder indexes machine names last
 unfolding given
 all-taken folder indexes [] machine files last is = record {
   paths = [];
@@ -97,19 +122,27 @@ all-taken folder indexes [] machine files last is = record {
   loaded = let same : machine ≡ last = cc in ap Ok same;
 }
 all-taken folder indexes (name ∷ names) machine files last is =
-    let g = goes-on (takes_listed_one folder indexes machine name) (λ next. each_from (takes_listed_one folder indexes) next names) files last is in
+    let g
+    = goes-on (takes_listed_one folder indexes machine name)
+    (λ next. each_from (takes_listed_one folder indexes) next names) files last is in
     let next : Machine = g.mid in
     let one = one-taken files folder indexes machine name next g.first in
-    let rest : ((each_from (takes_listed_one folder indexes) next names).run files).outcome ≡ value last =
-    subst (λ done. ((each_from (takes_listed_one folder indexes) next names).run (after done files)).outcome ≡ value last) one.acts g.rest in
+    let rest : ((each_from (takes_listed_one folder indexes) next names).run files).outcome
+    ≡ value last
+    =
+    subst (λ done. ((each_from (takes_listed_one folder indexes) next names).run
+    (after done files)).outcome
+    ≡ value last) one.acts g.rest in
     let others = all-taken folder indexes names next files last rest in
     record {
       paths = one.path ∷ others.paths;
       modules = one.m ∷ others.modules;
       found = (one.found, others.found);
       files = (one.file, others.files);
-      loaded = ap (unless_refused (λ other. load_all other others.modules)) one.took ∙ others.loaded;
+      loaded
+          = ap (unless_refused (λ other. load_all other others.modules)) one.took ∙ others.loaded;
     }
 
 pub listed-are-taken : ListedAreTaken
-listed-are-taken held folder indexes machine names after' is = all-taken folder indexes (reverse names) machine held after' is
+listed-are-taken held folder indexes machine names after' is =
+    all-taken folder indexes (reverse names) machine held after' is

@@ -1,5 +1,6 @@
 -- What the course of a modprobe that removes results in. modprobe(8), -r.
-use Rattle.std.specs.Prelude.{◌≡◌, ℕ, Bool, true, false, List, [], ◌∷◌, ◌++◌, flat_map, map, codes, Some, None, ⊤}
+use Rattle.std.specs.Prelude.{◌≡◌, ℕ, Bool, true, false, List, [], ◌∷◌, ◌++◌, flat_map, map, codes}
+use Rattle.std.specs.Prelude.{Some, None, ⊤}
 use Rattle.std.specs.List.{list_all}
 use Rattle.km_outside.specs.Contents.{Contents}
 use Rattle.kmod_words.specs.declared.modprobe.ModprobeWords.{ModprobeWords}
@@ -40,8 +41,12 @@ pub record Removing : Type 0 where
 -- A course of a removal got past its lookups, over these files, and came to this removal.
 pub record CameToRemoval (held : Contents) (asked : ModprobeWords) (r : Removing) : Type 0 where
   pub tables : HasMachine held asked r.kernel r.region
-  pub knows : ((reads_known asked.config (modules_folder asked.dirname asked.version) asked.loaded).run held).outcome ≡ value r.known
-  pub listed : ((takes_listed (modules_folder asked.dirname asked.version) r.known.indexes (new_machine r.kernel r.region) r.known.loaded).run held).outcome ≡ value r.listed
+  pub knows : ((reads_known asked.config (modules_folder asked.dirname asked.version)
+      asked.loaded).run held).outcome
+      ≡ value r.known
+  pub listed : ((takes_listed (modules_folder asked.dirname asked.version) r.known.indexes
+      (new_machine r.kernel r.region) r.known.loaded).run held).outcome
+      ≡ value r.listed
   pub found : names_outcome r.known asked.use_blacklist asked.words ≡ value r.names
 
 -- Acts print these lines, and do nothing else.
@@ -74,10 +79,12 @@ removed_names machine names = map (name_at machine) (removed_by machine names)
 abbrev pub taken_out_lines : Machine → List (List ℕ) → List ℕ
 taken_out_lines machine names =
     flat_map (line_of_two (codes "rmmod ")) (removed_names machine names)
-    ++ (flat_map unloaded_line (removed_names machine names) ++ left_lines (left_after machine names).entries)
+    ++ (flat_map unloaded_line (removed_names machine names)
+    ++ left_lines (left_after machine names).entries)
 
 -- What such a course results in, only by its machine.
-pub record IsRemovalCourse (dry_run : Bool) (asked : ModprobeWords) (r : Removing) (run : Run ⊤) : Type 0 where
+pub record IsRemovalCourse (dry_run : Bool) (asked : ModprobeWords) (r : Removing) (run : Run ⊤) :
+    Type 0 where
   -- a module that is asked for is used by one that isn't: the oldest such module and its oldest
   -- such user are named
   pub used : (j k : ℕ) → in_use r.listed (is_asked r.listed r.names) ≡ Some (j, k)

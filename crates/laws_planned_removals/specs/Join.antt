@@ -1,6 +1,7 @@
 -- What a removal that follows a load finds and leaves, if its list of loaded modules has what the
 -- load loaded. modprobe(8), -r; proc(5), /proc/modules.
-use Rattle.std.specs.Prelude.{◌≡◌, ◌<◌, ℕ, true, false, List, ◌++◌, codes, length, reverse, Option, None, Ok}
+use Rattle.std.specs.Prelude.{◌≡◌, ◌<◌, ℕ, true, false, List, ◌++◌, codes, length, reverse, Option}
+use Rattle.std.specs.Prelude.{None, Ok}
 use Rattle.std.specs.FinMap.{get}
 use Rattle.km_names.specs.Path.{is_compressed, path_below}
 use Rattle.km_outside.specs.Contents.{Contents}
@@ -38,7 +39,8 @@ pub record CameToLast (held : Contents) (folder : List ℕ) (l : Loaded) : Type 
   pub config : Option (List ℕ)
   pub listing : Option (List ℕ)
   pub request : Request
-  pub came : CameToLoads held (record { folder = folder; config = config; listing = listing; request = request }) l.loading
+  pub came : CameToLoads held
+      (record { folder = folder; config = config; listing = listing; request = request }) l.loading
   pub files : AreFileModules held folder (paths_of l.loading.inserts) l.plan
   pub loads : load_all l.loading.listed l.plan ≡ Ok l.last
 
@@ -49,12 +51,15 @@ LoadsComeToLast =
     → (has : HasMachine held asked l.kernel l.region)
     → CameToLoads held (inputs_of asked) l
     → ((loads_plan asked has.map).run held).outcome ≡ value tt
-    → (plan : List Module) × (last : Machine) × CameToLast held (modules_folder asked.dirname asked.version) (record { loading = l; plan = plan; last = last })
+    → (plan : List Module) × (last : Machine)
+    × CameToLast held (modules_folder asked.dirname asked.version)
+    (record { loading = l; plan = plan; last = last })
 
 -- The dependency lines of a folder are as they were, and so are its files of modules that aren't
 -- compressed.
 pub record FolderStays (held later : Contents) (folder : List ℕ) : Type 0 where
-  pub lines : get later (path_below folder (codes "modules.dep.bin")) ≡ get held (path_below folder (codes "modules.dep.bin"))
+  pub lines : get later (path_below folder (codes "modules.dep.bin"))
+      ≡ get held (path_below folder (codes "modules.dep.bin"))
   pub modules : (path : List ℕ) → is_module_path path ≡ true → is_compressed path ≡ false
       → get later (path_below folder path) ≡ get held (path_below folder path)
 
@@ -64,13 +69,15 @@ LoadsLeaveFolder =
     (held : Contents) (asked : ModprobeWords) (l : Loading)
     → (has : HasMachine held asked l.kernel l.region)
     → CameToLoads held (inputs_of asked) l
-    → FolderStays held (after ((loads_plan asked has.map).run held).acts held) (modules_folder asked.dirname asked.version)
+    → FolderStays held (after ((loads_plan asked has.map).run held).acts held)
+    (modules_folder asked.dirname asked.version)
 
 -- What a removal knows follows such a load. The folder is as it was for the load. The list of
 -- loaded modules reads as the names of the plan, the newest first, before the load's own list.
-pub record Follows (held later : Contents) (folder : List ℕ) (l : Loaded) (known : Known) : Type 0 where
-  pub stays : FolderStays held later folder
-  pub list : known.loaded ≡ reverse (inserted_names l.loading.steps) ++ l.loading.known.loaded
+pub record Follows (held later : Contents) (folder : List ℕ) (l : Loaded) (known : Known) : Type 0
+  where
+    pub stays : FolderStays held later folder
+    pub list : known.loaded ≡ reverse (inserted_names l.loading.steps) ++ l.loading.known.loaded
 
 -- These names are asked for, and no others.
 abbrev pub AreAskedFor : List (List ℕ) → List (List ℕ) → Type 0
@@ -91,22 +98,34 @@ pub record MeetsLoad (l : Loaded) (machine : Machine) (names : List (List ℕ)) 
   pub unloaded : unload_all machine (reverse (inserted_names l.loading.steps)) ≡ Ok l.loading.listed
   -- if the removed ones are the modules of the plan, the machine from before the plan is left, and
   -- it is sound
-  pub back : in_use machine (is_asked machine names) ≡ None → removed_names machine names ≡ reverse (inserted_names l.loading.steps)
-      → (left_after machine names ≡ l.loading.listed) × AreTakenBack l.loading.kernel l.loading.region older l.plan machine names
+  pub back : in_use machine (is_asked machine names) ≡ None
+      → removed_names machine names ≡ reverse (inserted_names l.loading.steps)
+      → (left_after machine names ≡ l.loading.listed)
+      × AreTakenBack l.loading.kernel l.loading.region older l.plan machine names
   -- if just what the plan loaded is asked for, none of it is in use. The removed ones are then the
   -- modules of the plan, unless only they use one of the load's own listed modules, which then goes
   -- with them
-  pub free : AreAskedFor names (inserted_names l.loading.steps) → in_use machine (is_asked machine names) ≡ None
+  pub free : AreAskedFor names (inserted_names l.loading.steps)
+      → in_use machine (is_asked machine names) ≡ None
   pub exact : AreAskedFor names (inserted_names l.loading.steps)
-      → ((j : ℕ) → j < length l.loading.listed.entries → is_used_only machine (is_asked machine names) j ≡ false)
+      → ((j : ℕ) → j < length l.loading.listed.entries
+      → is_used_only machine (is_asked machine names) j ≡ false)
       → removed_names machine names ≡ reverse (inserted_names l.loading.steps)
 
 -- A removal that follows a load takes modules out of the load's last machine, and what the plan
 -- loaded is taken back.
 abbrev pub RemovalMeetsLoad : Type 0
 RemovalMeetsLoad =
-    (held later : Contents) (asked : ModprobeWords) (l : Loaded) (known : Known) (machine : Machine) (names : List (List ℕ))
+    (held later : Contents) (asked : ModprobeWords) (l : Loaded) (known : Known) (machine : Machine)
+    (names : List (List ℕ))
     → CameToLast held (modules_folder asked.dirname asked.version) l
     → Follows held later (modules_folder asked.dirname asked.version) l known
-    → CameToRemoval later asked (record { kernel = l.loading.kernel; region = l.loading.region; known = known; listed = machine; names = names })
+    → CameToRemoval later asked
+    (record {
+      kernel = l.loading.kernel;
+      region = l.loading.region;
+      known = known;
+      listed = machine;
+      names = names;
+    })
     → MeetsLoad l machine names

@@ -19,7 +19,8 @@ AreWellFormedPaths indexes (name ∷ names) (path ∷ paths) =
     (well_formed_path indexes name ≡ Some path) × AreWellFormedPaths indexes names paths
 
 -- The modules of names went into a machine, one after the other, each of its file.
-pub record AreTaken (held : Contents) (folder : List ℕ) (indexes : Indexes) (machine : Machine) (names : List (List ℕ)) (after : Machine) : Type 0 where
+pub record AreTaken (held : Contents) (folder : List ℕ) (indexes : Indexes) (machine : Machine)
+    (names : List (List ℕ)) (after : Machine) : Type 0 where
   pub paths : List (List ℕ)
   pub modules : List Module
   pub found : AreWellFormedPaths indexes names paths
@@ -30,6 +31,7 @@ pub record AreTaken (held : Contents) (folder : List ℕ) (indexes : Indexes) (m
 -- of the list first.
 abbrev pub ListedAreTaken : Type 0
 ListedAreTaken =
-    (held : Contents) (folder : List ℕ) (indexes : Indexes) (machine : Machine) (names : List (List ℕ)) (after : Machine)
+    (held : Contents) (folder : List ℕ) (indexes : Indexes) (machine : Machine)
+    (names : List (List ℕ)) (after : Machine)
     → ((takes_listed folder indexes machine names).run held).outcome ≡ value after
     → AreTaken held folder indexes machine (reverse names) after

@@ -1,7 +1,8 @@
 // The laws.
 ghost use Rattle.laws_planned_removals.specs.Listed.{ListedAreTaken};
 ghost use Rattle.laws_planned_removals.specs.Courses.{CoursesRemove};
-ghost use Rattle.laws_planned_removals.specs.Join.{LoadsComeToLast, LoadsLeaveFolder, RemovalMeetsLoad};
+ghost use Rattle.laws_planned_removals.specs.Join.{LoadsComeToLast, LoadsLeaveFolder};
+ghost use Rattle.laws_planned_removals.specs.Join.{RemovalMeetsLoad};
 
 /// States that the listed modules that a removal takes are the modules of their files, and that the
 /// machine is the one after their loads.

@@ -16,7 +16,8 @@ use Rattle.laws_closed_plans.specs.Loads.{load_all}
 
 -- The removed modules are these, oldest first.
 abbrev pub AreRemovedModules : Machine → List (List ℕ) → List Module → Type 0
-AreRemovedModules machine names ms = map (name_at machine) (removed_by machine names) ≡ reverse (names_of ms)
+AreRemovedModules machine names ms =
+    map (name_at machine) (removed_by machine names) ≡ reverse (names_of ms)
 
 -- For every split of loaded modules into older and newer ones: if the removed ones are the newer
 -- ones, the machine of only the older ones is left.
@@ -30,7 +31,8 @@ OlderAreLeft =
 
 -- The machine that is left after a removal is the one of only the older modules, and sound. None of
 -- the newer ones is refused when it is removed.
-pub record AreTakenBack (kernel : Kernel) (region : Region) (older newer : List Module) (after : Machine) (names : List (List ℕ)) : Type 0 where
+pub record AreTakenBack (kernel : Kernel) (region : Region) (older newer : List Module)
+    (after : Machine) (names : List (List ℕ)) : Type 0 where
   pub loaded : IsLoaded kernel region older (left_after after names)
   pub unloaded : unload_all after (reverse (names_of newer)) ≡ Ok (left_after after names)
   pub sound : IsSound (left_after after names) older
@@ -39,7 +41,8 @@ pub record AreTakenBack (kernel : Kernel) (region : Region) (older newer : List 
 -- in use.
 abbrev pub RemovalsTakeBack : Type 0
 RemovalsTakeBack =
-    (kernel : Kernel) (region : Region) (older newer : List Module) (after : Machine) (names : List (List ℕ))
+    (kernel : Kernel) (region : Region) (older newer : List Module) (after : Machine)
+    (names : List (List ℕ))
     → IsLoaded kernel region (older ++ newer) after
     → in_use after (is_asked after names) ≡ None
     → AreRemovedModules after names newer

@@ -25,5 +25,6 @@ LoadsAreUndone =
 -- Loads are undone by names: none of the modules that were loaded is refused when it is removed.
 abbrev pub LoadsAreUnloaded : Type 0
 LoadsAreUnloaded =
-    (machine after : Machine) (ms : List Module) → load_all machine ms ≡ Ok after → IsDistinct bytes_eq (entry_names after)
+    (machine after : Machine) (ms : List Module) → load_all machine ms ≡ Ok after
+    → IsDistinct bytes_eq (entry_names after)
     → unload_all after (reverse (names_of ms)) ≡ Ok machine

@@ -12,7 +12,8 @@ entry_of name exports needs = record {
   image = [];
   free = true;
   imports = [];
-  exports = map (λ x. record { name = x; crc = None; gpl = false; space = []; address = 0 }) exports;
+  exports
+      = map (λ x. record { name = x; crc = None; gpl = false; space = []; address = 0 }) exports;
   needs = map (λ x. record { name = x; weak = false; crc = None }) needs;
 }
 

@@ -41,35 +41,48 @@ pub fn removals_take_back()
 #[tactic(auto, unfolding(remove_plan::specs::Removal::removed))]
 pub fn unused_modules_go_too()
     ensures both { (kernel : Kernel) (region : Region)
-        → removal_steps (machine_of kernel region (e ∷ a ∷ b ∷ [])) [] false (codes "b" ∷ []) ≡ Rmmod (codes "b") ∷ Rmmod (codes "a") ∷ [] }
+        → removal_steps (machine_of kernel region (e ∷ a ∷ b ∷ [])) [] false (codes "b" ∷ [])
+        ≡ Rmmod (codes "b") ∷ Rmmod (codes "a") ∷ [] }
     ensures left { (kernel : Kernel) (region : Region)
-        → left_after (machine_of kernel region (e ∷ a ∷ b ∷ [])) (codes "b" ∷ []) ≡ machine_of kernel region (e ∷ []) }
+        → left_after (machine_of kernel region (e ∷ a ∷ b ∷ [])) (codes "b" ∷ [])
+        ≡ machine_of kernel region (e ∷ []) }
     ensures in_use { (kernel : Kernel) (region : Region)
-        → removal_fault (machine_of kernel region (e ∷ a ∷ b ∷ [])) (codes "a" ∷ []) ≡ Some (InUse (codes "a") (codes "b")) }
+        → removal_fault (machine_of kernel region (e ∷ a ∷ b ∷ [])) (codes "a" ∷ [])
+        ≡ Some (InUse (codes "a") (codes "b")) }
     ensures twice { (kernel : Kernel) (region : Region)
-        → removal_steps (machine_of kernel region (e ∷ a ∷ b ∷ [])) [] false (codes "b" ∷ codes "b" ∷ codes "x" ∷ []) ≡ Rmmod (codes "b") ∷ Rmmod (codes "a") ∷ [] }
+        → removal_steps (machine_of kernel region (e ∷ a ∷ b ∷ [])) [] false
+        (codes "b" ∷ codes "b" ∷ codes "x" ∷ [])
+        ≡ Rmmod (codes "b") ∷ Rmmod (codes "a") ∷ [] }
     ensures older { (kernel : Kernel) (region : Region)
-        → removal_steps (machine_of kernel region (e ∷ a ∷ b ∷ [])) [] false (codes "a" ∷ codes "b" ∷ []) ≡ Rmmod (codes "b") ∷ Rmmod (codes "a") ∷ [] }
+        → removal_steps (machine_of kernel region (e ∷ a ∷ b ∷ [])) [] false
+        (codes "a" ∷ codes "b" ∷ [])
+        ≡ Rmmod (codes "b") ∷ Rmmod (codes "a") ∷ [] }
 {}
 
 /// States that a module with two users is removed only with both.
 #[tactic(auto, unfolding(remove_plan::specs::Removal::removed))]
 pub fn used_modules_stay()
     ensures one { (kernel : Kernel) (region : Region)
-        → removal_steps (machine_of kernel region (a ∷ b ∷ d ∷ [])) [] false (codes "b" ∷ []) ≡ Rmmod (codes "b") ∷ [] }
+        → removal_steps (machine_of kernel region (a ∷ b ∷ d ∷ [])) [] false (codes "b" ∷ [])
+        ≡ Rmmod (codes "b") ∷ [] }
     ensures two { (kernel : Kernel) (region : Region)
-        → removal_steps (machine_of kernel region (a ∷ b ∷ d ∷ [])) [] false (codes "b" ∷ codes "d" ∷ []) ≡ Rmmod (codes "d") ∷ Rmmod (codes "b") ∷ Rmmod (codes "a") ∷ [] }
+        → removal_steps (machine_of kernel region (a ∷ b ∷ d ∷ [])) [] false
+        (codes "b" ∷ codes "d" ∷ [])
+        ≡ Rmmod (codes "d") ∷ Rmmod (codes "b") ∷ Rmmod (codes "a") ∷ [] }
     ensures in_use { (kernel : Kernel) (region : Region)
-        → removal_fault (machine_of kernel region (a ∷ b ∷ d ∷ [])) (codes "a" ∷ codes "b" ∷ []) ≡ Some (InUse (codes "a") (codes "d")) }
+        → removal_fault (machine_of kernel region (a ∷ b ∷ d ∷ [])) (codes "a" ∷ codes "b" ∷ [])
+        ≡ Some (InUse (codes "a") (codes "d")) }
 {}
 
 /// States that a chain is removed from its youngest module down.
 #[tactic(auto, unfolding(remove_plan::specs::Removal::removed))]
 pub fn chains_go()
     ensures all { (kernel : Kernel) (region : Region)
-        → removal_steps (machine_of kernel region (a ∷ b ∷ c ∷ [])) [] false (codes "c" ∷ []) ≡ Rmmod (codes "c") ∷ Rmmod (codes "b") ∷ Rmmod (codes "a") ∷ [] }
+        → removal_steps (machine_of kernel region (a ∷ b ∷ c ∷ [])) [] false (codes "c" ∷ [])
+        ≡ Rmmod (codes "c") ∷ Rmmod (codes "b") ∷ Rmmod (codes "a") ∷ [] }
     ensures in_use { (kernel : Kernel) (region : Region)
-        → removal_fault (machine_of kernel region (a ∷ b ∷ c ∷ [])) (codes "b" ∷ []) ≡ Some (InUse (codes "b") (codes "c")) }
+        → removal_fault (machine_of kernel region (a ∷ b ∷ c ∷ [])) (codes "b" ∷ [])
+        ≡ Some (InUse (codes "b") (codes "c")) }
 {}
 
 /// States that a command is run instead of removing a module, unless the module is asked for and
@@ -77,7 +90,11 @@ pub fn chains_go()
 #[tactic(auto, unfolding(remove_plan::specs::Removal::removed))]
 pub fn commands_are_chosen()
     ensures chosen { (kernel : Kernel) (region : Region)
-        → removal_steps (machine_of kernel region (a ∷ b ∷ [])) (Remove (codes "a") (codes "x") ∷ []) true (codes "b" ∷ []) ≡ Rmmod (codes "b") ∷ Command (codes "a") (codes "x") ∷ [] }
+        → removal_steps (machine_of kernel region (a ∷ b ∷ []))
+        (Remove (codes "a") (codes "x") ∷ []) true (codes "b" ∷ [])
+        ≡ Rmmod (codes "b") ∷ Command (codes "a") (codes "x") ∷ [] }
     ensures ignored { (kernel : Kernel) (region : Region)
-        → removal_steps (machine_of kernel region (a ∷ b ∷ [])) (Remove (codes "b") (codes "x") ∷ []) true (codes "b" ∷ []) ≡ Rmmod (codes "b") ∷ Rmmod (codes "a") ∷ [] }
+        → removal_steps (machine_of kernel region (a ∷ b ∷ []))
+        (Remove (codes "b") (codes "x") ∷ []) true (codes "b" ∷ [])
+        ≡ Rmmod (codes "b") ∷ Rmmod (codes "a") ∷ [] }
 {}

@@ -1,4 +1,5 @@
-ghost use Rattle.std.specs.Prelude.{◌≡◌, ◌≤◌, ◌↔◌, [], ◌∷◌, ◌++◌, length, IsNone, IfOk, OnOk, OnErr, slice_get, option_copied};
+ghost use Rattle.std.specs.Prelude.{◌≡◌, ◌≤◌, ◌↔◌, [], ◌∷◌, ◌++◌, length, IsNone, IfOk, OnOk};
+ghost use Rattle.std.specs.Prelude.{OnErr, slice_get, option_copied};
 ghost use Rattle.loaded_list.specs.Loaded.{loaded_of, name_if_any};
 
 use km_names::{Name, Names, first_line, split_word, trimmed};

@@ -1,7 +1,8 @@
 -- The choice among paths of one module name, as the code makes it: paths in order, and the first of
 -- each name.
 -- It belongs to the code: no public meaning rests on it.
-use Rattle.std.specs.Prelude.{◌≡◌, ℕ, ◌≤◌, List, [], ◌∷◌, Bool, false, if◌then◌else◌, Option, Some, None, length, filter}
+use Rattle.std.specs.Prelude.{◌≡◌, ℕ, ◌≤◌, List, [], ◌∷◌, Bool, false, if◌then◌else◌, Option, Some}
+use Rattle.std.specs.Prelude.{None, length, filter}
 use Rattle.std.specs.List.{list_any, count_by}
 use Rattle.std.specs.Str.{bytes_eq}
 use Rattle.km_names.specs.Path.{module_name}
@@ -26,10 +27,13 @@ is_name (Some previous) name = bytes_eq previous name
 abbrev pub heads : Option (List ℕ) → List (List ℕ) → List (List ℕ)
 heads previous [] = []
 heads previous (p ∷ ps) =
-    if is_name previous (module_name p) then heads (Some (module_name p)) ps else p ∷ heads (Some (module_name p)) ps
+    if is_name previous (module_name p)
+    then heads (Some (module_name p)) ps
+    else p ∷ heads (Some (module_name p)) ps
 
 -- The list has exactly the chosen paths of some paths, each once, and as many as there are names.
 pub record HasChosen (search paths chosen : List (List ℕ)) : Type 0 where
-  pub members : (q : List ℕ) → list_any (bytes_eq q) chosen ≡ list_any (bytes_eq q) (filter (is_chosen search paths) paths)
+  pub members : (q : List ℕ)
+      → list_any (bytes_eq q) chosen ≡ list_any (bytes_eq q) (filter (is_chosen search paths) paths)
   pub once : (q : List ℕ) → count_by (bytes_eq q) chosen ≤ 1
   pub count : length chosen ≡ name_count paths

@@ -1,6 +1,7 @@
 -- The lines of modules.dep: the path of a module, a `:`, and the paths of the modules that it
 -- needs, each after a space. modules.dep(5).
-use Rattle.std.specs.Prelude.{ℕ, List, [], ◌∷◌, Bool, false, not, ◌&&◌, ◌||◌, ◌==◌, if◌then◌else◌, Option, Some, None}
+use Rattle.std.specs.Prelude.{ℕ, List, [], ◌∷◌, Bool, false, not, ◌&&◌, ◌||◌, ◌==◌, if◌then◌else◌}
+use Rattle.std.specs.Prelude.{Option, Some, None}
 use Rattle.std.specs.List.{list_any, list_all, before_first, after_first, slice_split}
 use Rattle.mod_tree.specs.Tree.{is_module_path}
 

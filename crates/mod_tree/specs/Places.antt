@@ -12,4 +12,5 @@ use Rattle.mod_tree.specs.declared.places.Places.{Places}
 -- The first place of each of the items is kept, and the number of items.
 pub record IsPlacesOf (items : List (List ℕ)) (places : Places) : Type 0 where
   pub count_is : places.count ≡ length items
-  pub at : (q : Bor (List ℕ)) → get (λ x y. slice_cmp nat_cmp x.now y.now) places.first q ≡ position (bytes_eq q.now) items
+  pub at : (q : Bor (List ℕ))
+      → get (λ x y. slice_cmp nat_cmp x.now y.now) places.first q ≡ position (bytes_eq q.now) items

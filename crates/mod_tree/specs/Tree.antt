@@ -1,6 +1,8 @@
 -- The tree of a kernel's modules: which file of each name is its module, and the order of the
 -- modules. depmod.d(5), "search"; kbuild's modules.order.
-use Rattle.std.specs.Prelude.{ℕ, List, [], ◌∷◌, ◌++◌, Bool, not, ◌&&◌, ◌||◌, ◌==◌, nat_lt, if◌then◌else◌, codes, Option, Some, None, Result, Ok, Err, map, filter, length, nat_eq}
+use Rattle.std.specs.Prelude.{ℕ, List, [], ◌∷◌, ◌++◌, Bool, not, ◌&&◌, ◌||◌, ◌==◌, nat_lt}
+use Rattle.std.specs.Prelude.{if◌then◌else◌, codes, Option, Some, None, Result, Ok, Err, map}
+use Rattle.std.specs.Prelude.{filter, length, nat_eq}
 use Rattle.std.specs.List.{list_any, ends_with, starts_with, position_or_len}
 use Rattle.std.specs.Str.{bytes_eq}
 use Rattle.std.specs.Ordering.{nat_cmp, ordering_then, is_lt}
@@ -21,14 +23,17 @@ is_bad_byte b = nat_lt b 33 || nat_lt 126 b || b == 58
 
 -- Whether a search word names a folder that a path lies in. `built-in` names none.
 abbrev pub is_folder_of : List ℕ → List ℕ → Bool
-is_folder_of path word = not (bytes_eq word (codes "built-in")) && starts_with nat_eq path (word ++ 47 ∷ [])
+is_folder_of path word =
+    not (bytes_eq word (codes "built-in")) && starts_with nat_eq path (word ++ 47 ∷ [])
 
 -- The rank of a path: the least place of a search word that names a folder of it, else the place of
 -- `built-in`, else the length of the list.
 abbrev pub rank : List (List ℕ) → List ℕ → ℕ
 rank search path =
     let place = position_or_len (is_folder_of path) search in
-    if nat_lt place (length search) then place else position_or_len (bytes_eq (codes "built-in")) search
+    if nat_lt place (length search)
+    then place
+    else position_or_len (bytes_eq (codes "built-in")) search
 
 -- Paths of one name in the order of choice: by rank, and then by bytes.
 abbrev pub choice_cmp : List (List ℕ) → List ℕ → List ℕ → Ordering
@@ -38,13 +43,16 @@ choice_cmp search p q = ordering_then (nat_cmp (rank search p) (rank search q)) 
 -- choice.
 abbrev pub is_chosen : List (List ℕ) → List (List ℕ) → List ℕ → Bool
 is_chosen search paths p =
-    not (list_any (λ q. bytes_eq (module_name q) (module_name p) && is_lt (choice_cmp search q p)) paths)
+    not (list_any (λ q. bytes_eq (module_name q) (module_name p) && is_lt (choice_cmp search q p))
+    paths)
 
 -- Paths in the order of the tree: by their first line in a list of lines, with paths that have no
 -- line last, and then by bytes.
 abbrev pub listing_cmp : List (List ℕ) → List ℕ → List ℕ → Ordering
 listing_cmp lines p q =
-    ordering_then (nat_cmp (position_or_len (bytes_eq p) lines) (position_or_len (bytes_eq q) lines)) (bytes_cmp p q)
+    ordering_then
+    (nat_cmp (position_or_len (bytes_eq p) lines) (position_or_len (bytes_eq q) lines))
+    (bytes_cmp p q)
 
 -- The chosen ones among paths of modules, each once, in the order of the tree.
 unfoldable pub tree_paths : List (List ℕ) → List (List ℕ) → List (List ℕ) → List (List ℕ)

@@ -24,7 +24,8 @@ pub(crate) fn chosen_paths<'a>(
     modules: &[&'a PathText],
     search: &Search,
 ) -> Result<Vec<&'a [u8]>, AllocError>
-    ensures { IfOk result (λ chosen. HasChosen search.now (referents modules.now) (referents chosen.items)) }
+    ensures { IfOk result
+        (λ chosen. HasChosen search.now (referents modules.now) (referents chosen.items)) }
 {
     let mut list = candidates(alloc, modules, search)?;
     list.sort()?;
@@ -67,7 +68,8 @@ fn word_places<'a>(alloc: Global, search: &'a Search) -> Result<Places<'a>, Allo
 
 /// Returns the rank of a path among search words whose places are known.
 fn rank(places: &Places<'_>, path: &[u8]) -> usize
-    ensures { (search : List (List ℕ)) → IsPlacesOf search places.now → result ≡ rank_spec search path.now }
+    ensures { (search : List (List ℕ)) → IsPlacesOf search places.now
+        → result ≡ rank_spec search path.now }
 {
     let place = folder_place(places, path);
     if place < places.count() {

@@ -24,7 +24,8 @@ pub(crate) fn tree_in_order(
     chosen: &[&[u8]],
     order_file: &[u8],
 ) -> Result<Paths, AllocError>
-    ensures { IfOk result (λ tree. (search paths : List (List ℕ)) → HasChosen search paths (referents chosen.now)
+    ensures { IfOk result (λ tree. (search paths : List (List ℕ))
+        → HasChosen search paths (referents chosen.now)
         → tree ≡ tree_paths search (lines_of order_file.now) paths) }
 {
     let places = line_places(alloc, order_file)?;
@@ -54,7 +55,9 @@ fn listings<'a>(
     places: &Places<'_>,
 ) -> Result<Vec<Listing<'a>>, AllocError>
     ensures paths { IfOk result (λ list. map listed_path list.items ≡ referents chosen.now) }
-    ensures each { IfOk result (λ list. (lines : List (List ℕ)) → IsPlacesOf lines places.now → All (IsListing lines) list.items) }
+    ensures each { IfOk result
+        (λ list. (lines : List (List ℕ)) → IsPlacesOf lines places.now
+        → All (IsListing lines) list.items) }
 {
     let mut list = Vec::new(alloc);
     for path in chosen {

@@ -34,7 +34,9 @@ impl<'a> Places<'a> {
     pub(crate) fn add(&mut self, item: &'a [u8]) -> Result<(), AllocError>
         requires { self.old.count + 1 < 2 ^ 64 }
         ensures count { OnOk result (self.new.count ≡ self.old.count + 1) }
-        ensures places { OnOk result ((items : List (List ℕ)) → IsPlacesOf items self.old → IsPlacesOf (items ++ item.now ∷ []) self.new) }
+        ensures places { OnOk result
+            ((items : List (List ℕ)) → IsPlacesOf items self.old
+            → IsPlacesOf (items ++ item.now ∷ []) self.new) }
     {
         if self.first.get(item).is_none() {
             self.first.insert(item, self.count)?;
@@ -45,7 +47,8 @@ impl<'a> Places<'a> {
 
     /// Returns the first place of a byte list, or the count if it has none.
     pub(crate) fn first_place(&self, item: &[u8]) -> usize
-        ensures { (items : List (List ℕ)) → IsPlacesOf items self.now → result ≡ position_or_len (bytes_eq item.now) items }
+        ensures { (items : List (List ℕ)) → IsPlacesOf items self.now
+            → result ≡ position_or_len (bytes_eq item.now) items }
     {
         match self.first.get(item) {
             Some(place) => *place,

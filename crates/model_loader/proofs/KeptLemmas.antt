@@ -1,5 +1,7 @@
 -- A machine with an entry more keeps what it is to keep.
-use Rattle.std.proofs.Common.{◌≡◌, ◌≤◌, ◌<◌, ◌+◌, ◌*◌, ◌/◌, ◌%◌, ◌∙◌, ◌⊎◌, inl, inr, ℕ, zero, suc, Bool, true, false, List, [], ◌∷◌, ◌++◌, Option, Some, None, refl, sym, ap, subst, arith, length, map, get_or}
+use Rattle.std.proofs.Common.{◌≡◌, ◌≤◌, ◌<◌, ◌+◌, ◌*◌, ◌/◌, ◌%◌, ◌∙◌, ◌⊎◌, inl, inr, ℕ, zero, suc}
+use Rattle.std.proofs.Common.{Bool, true, false, List, [], ◌∷◌, ◌++◌, Option, Some, None, refl, sym}
+use Rattle.std.proofs.Common.{ap, subst, arith, length, map, get_or}
 use Rattle.std.specs.Prelude.{find, option_map, All, unwrap_or, is_none, option_and_then}
 use Rattle.model_loader.specs.declared.fault.LoadFault.TheVariants.{RegionFull}
 use Rattle.std.specs.List.{IsDistinct, list_any}
@@ -27,20 +29,27 @@ use Rattle.model_loader.specs.Gap.{gap, gap_among, is_gap, meets_entry, pages}
 use Rattle.model_loader.specs.Kept.{IsKept}
 use Rattle.model_loader.specs.Sound.{IsPlaced, entry_names, exported_names}
 use Rattle.model_loader.specs.Standing.{export_pair, named_pair, standing_in, standing_of}
-use Rattle.model_loader.specs.Step.{fault_if, named_pages, overflow_fault, entry_at, module_base, module_size, placement_tests, symbol_addresses, with_entry}
+use Rattle.model_loader.specs.Step.{fault_if, named_pages, overflow_fault, entry_at, module_base}
+use Rattle.model_loader.specs.Step.{module_size, placement_tests, symbol_addresses, with_entry}
 use Rattle.model_loader.proofs.StandingLemmas.{find-map}
 use Rattle.model_loader.proofs.StepLemmas.{first-append}
 
 -- What a list keeps of a name, if it was made for exports of an owner.
-second-fused : {X Y : Type 0} (f : X → List ℕ × Y) (o : Option X) → option_map (λ (p : List ℕ × Y). p.1) (option_map f o) ≡ option_map (λ x. (f x).1) o
+second-fused : {X Y : Type 0} (f : X → List ℕ × Y) (o : Option X)
+    → option_map (λ (p : List ℕ × Y). p.1) (option_map f o) ≡ option_map (λ x. (f x).1) o
 second-fused f None = refl
 second-fused f (Some x) = refl
 
-pub standing_in-is : (x : List ℕ) (owner : Option (List ℕ)) (named : List Named) (exports : List PlacedExport) → map named_pair named ≡ map (export_pair owner) exports → standing_in x named ≡ option_map (standing owner) (export_named x exports)
+pub standing_in-is : (x : List ℕ) (owner : Option (List ℕ)) (named : List Named)
+    (exports : List PlacedExport)
+    → map named_pair named ≡ map (export_pair owner) exports
+    → standing_in x named ≡ option_map (standing owner) (export_named x exports)
 standing_in-is x owner named exports same =
     let test : List ℕ × Standing → Bool = λ p. bytes_eq p.0 x in
     sym (second-fused named_pair (find (λ (n : Named). bytes_eq n.name.items x) named))
-    ∙ ap (option_map (λ (p : List ℕ × Standing). p.1)) (sym (find-map test named_pair named) ∙ ap (find test) same ∙ find-map test (export_pair owner) exports)
+    ∙ ap (option_map (λ (p : List ℕ × Standing). p.1))
+    (sym (find-map test named_pair named) ∙ ap (find test) same
+    ∙ find-map test (export_pair owner) exports)
     ∙ second-fused (export_pair owner) (export_named x exports)
 
 -- What is under a name with one more entry.
@@ -64,14 +73,21 @@ module _ (machine : Machine) (e : Entry) (x : List ℕ) where
   pub under-next : table (with_entry machine e) x ≡ option_or (table machine x) (of_entry e)
   unfolding table
   under-next =
-      let kernel = option_map (standing None) (export_named x (map kernel_placed machine.kernel.exports)) in
+      let kernel
+      = option_map (standing None) (export_named x (map kernel_placed machine.kernel.exports))
+      in
       let old = first (map of_entry machine.entries) in
       let more : first (map of_entry (machine.entries ++ e ∷ [])) ≡ option_or old (of_entry e) =
-      ap first (map-append of_entry machine.entries (e ∷ [])) ∙ first-append (map of_entry machine.entries) (of_entry e ∷ []) ∙ ap (option_or old) (one-first (of_entry e)) in
-      or-first kernel (first (map of_entry (machine.entries ++ e ∷ []))) ∙ ap (option_or kernel) more ∙ or-assoc kernel old (of_entry e) ∙ ap (λ o. option_or o (of_entry e)) (sym (or-first kernel old))
+      ap first (map-append of_entry machine.entries (e ∷ []))
+      ∙ first-append (map of_entry machine.entries) (of_entry e ∷ [])
+      ∙ ap (option_or old) (one-first (of_entry e)) in
+      or-first kernel (first (map of_entry (machine.entries ++ e ∷ [])))
+      ∙ ap (option_or kernel) more ∙ or-assoc kernel old (of_entry e)
+      ∙ ap (λ o. option_or o (of_entry e)) (sym (or-first kernel old))
 
 -- What is found passes the test, and is one of the list.
-pub find-some : {X : Type 0} (p : X → Bool) (xs : List X) (y : X) → find p xs ≡ Some y → (p y ≡ true) × ((k : ℕ) × (k < length xs) × (get_or xs k y ≡ y))
+pub find-some : {X : Type 0} (p : X → Bool) (xs : List X) (y : X) → find p xs ≡ Some y
+    → (p y ≡ true) × ((k : ℕ) × (k < length xs) × (get_or xs k y ≡ y))
 find-some p [] y is = absurd cc
 find-some p (x ∷ xs) y is =
     elim (cases_Bool (p x)) [
@@ -90,19 +106,30 @@ pub record IsGapAt (region : Region) (entries : List Entry) (n at : ℕ) : Type 
   pub high : at + n ≤ region.base + region.size
   pub free : list_any (meets_entry at n) entries ≡ false
 
-gap_fits : (region : Region) (entries : List Entry) (n at : ℕ) → is_gap region entries n at ≡ true → at + n ≤ region.base + region.size
+gap_fits : (region : Region) (entries : List Entry) (n at : ℕ) → is_gap region entries n at ≡ true
+    → at + n ≤ region.base + region.size
 gap_fits region entries n at is = grind (arith, nat_tests)
 
-gap_free : (region : Region) (entries : List Entry) (n at : ℕ) → is_gap region entries n at ≡ true → list_any (meets_entry at n) entries ≡ false
+gap_free : (region : Region) (entries : List Entry) (n at : ℕ) → is_gap region entries n at ≡ true
+    → list_any (meets_entry at n) entries ≡ false
 gap_free region entries n at is = grind (arith, nat_tests)
 
-pub gap-at : (region : Region) (entries : List Entry) (n at : ℕ) → gap_among region entries n ≡ Some at → IsGapAt region entries n at
+pub gap-at : (region : Region) (entries : List Entry) (n at : ℕ)
+    → gap_among region entries n ≡ Some at → IsGapAt region entries n at
 unfolding gap_among
 gap-at region entries n at is =
     let found = find-some (is_gap region entries n) (pages region) at is in
     let k = found.1.0 in
-    let inside : k < region.size / 4096 = omega (arith, found.1.1, length-map-range_with_len (λ j. region.base + 4096 * j) 0 (region.size / 4096)) in
-    let place : region.base + 4096 * k ≡ at = sym (get_or-map-range_with_len (λ j. region.base + 4096 * j) 0 (region.size / 4096) k k at inside (omega arith)) ∙ found.1.2 in
+    let inside : k < region.size / 4096
+    = omega (
+      arith,
+      found.1.1,
+      length-map-range_with_len (λ j. region.base + 4096 * j) 0 (region.size / 4096),
+    ) in
+    let place : region.base + 4096 * k ≡ at
+    = sym (get_or-map-range_with_len (λ j. region.base + 4096 * j) 0 (region.size / 4096) k k at
+    inside (omega arith))
+    ∙ found.1.2 in
     record {
       page = omega (arith, place, region.pages.begins);
       low = omega (arith, place);
@@ -110,10 +137,12 @@ gap-at region entries n at is =
       free = gap_free region entries n at found.0;
     }
 
-pub length-laid : (o : FileObject) (base : ℕ) (addresses : List ℕ) → length (laid o base addresses) ≡ image_size o.sections
+pub length-laid : (o : FileObject) (base : ℕ) (addresses : List ℕ)
+    → length (laid o base addresses) ≡ image_size o.sections
 unfolding laid patched filled
 length-laid o base addresses =
-    length-map-range_with_len (byte_at (plain_image o) (patches o base addresses)) 0 (length (plain_image o))
+    length-map-range_with_len (byte_at (plain_image o) (patches o base addresses)) 0
+    (length (plain_image o))
     ∙ length-map-range_with_len (plain_byte (pieces o)) 0 (image_size o.sections)
 
 greater_cases : (a b : ℕ) → (greater a b ≡ a) ⊎ (greater a b ≡ b)
@@ -131,15 +160,21 @@ unfolding image_size aligned
 size-pages m = page_greater _
 
 -- The gap of a module that isn't refused.
-pub module-gap : (machine : Machine) (m : Module) → first (placement_tests machine m) ≡ None → gap machine (module_size m) ≡ Some (module_base machine m)
+pub module-gap : (machine : Machine) (m : Module) → first (placement_tests machine m) ≡ None
+    → gap machine (module_size m) ≡ Some (module_base machine m)
 module-gap machine m none = by-gap (gap machine (module_size m)) none
   where
-    by-gap : (o : Option ℕ) → first (fault_if (is_none o) (RegionFull (named_pages (module_size m / 4096))) ∷ option_and_then (overflow_fault machine m) o ∷ []) ≡ None → o ≡ Some (unwrap_or o 0)
+    by-gap : (o : Option ℕ)
+        → first (fault_if (is_none o) (RegionFull (named_pages (module_size m / 4096)))
+        ∷ option_and_then (overflow_fault machine m) o ∷ [])
+        ≡ None
+        → o ≡ Some (unwrap_or o 0)
     by-gap None none = absurd cc
     by-gap (Some at) none = refl
 
 -- The entry of a module at a gap is placed.
-pub placed-new : (machine : Machine) (m : Module) (base : ℕ) → gap machine (module_size m) ≡ Some base → IsPlaced machine (entry_at machine m base)
+pub placed-new : (machine : Machine) (m : Module) (base : ℕ)
+    → gap machine (module_size m) ≡ Some base → IsPlaced machine (entry_at machine m base)
 unfolding entry_at
 placed-new machine m base is =
     let at = gap-at machine.region machine.entries (module_size m) base is in
@@ -153,18 +188,33 @@ placed-new machine m base is =
     }
 
 -- Those that were there stay.
-pub all-append : {X : Type 0} (P : X → Type 0) (xs : List X) (y : X) → All P xs → P y → All P (xs ++ y ∷ [])
+pub all-append : {X : Type 0} (P : X → Type 0) (xs : List X) (y : X) → All P xs → P y
+    → All P (xs ++ y ∷ [])
 all-append P [] y all here zero d less = here
 all-append P [] y all here (suc k) d less = absurd (omega arith)
 all-append P (x ∷ xs) y all here zero d less = all 0 d (omega arith)
-all-append P (x ∷ xs) y all here (suc k) d less = all-append P xs y (λ j e inside. all (suc j) e (omega arith)) here k d (omega arith)
+all-append P (x ∷ xs) y all here (suc k) d less =
+    all-append P xs y (λ j e inside. all (suc j) e (omega arith)) here k d (omega arith)
 
-pub placed-next : (machine : Machine) (e : Entry) → All (IsPlaced machine) machine.entries → IsPlaced machine e → All (IsPlaced (with_entry machine e)) (with_entry machine e).entries
+pub placed-next : (machine : Machine) (e : Entry) → All (IsPlaced machine) machine.entries
+    → IsPlaced machine e → All (IsPlaced (with_entry machine e)) (with_entry machine e).entries
 placed-next machine e all here =
-    let again : (n : Entry) → IsPlaced machine n → IsPlaced (with_entry machine e) n = λ n is. record { size = is.size; begins = is.begins; whole = is.whole; low = is.low; high = is.high } in
-    all-append (IsPlaced (with_entry machine e)) machine.entries e (λ k d less. again (get_or machine.entries k d) (all k d less)) (again e here)
+    let again : (n : Entry) → IsPlaced machine n → IsPlaced (with_entry machine e) n
+    = λ n is. record
+    { size = is.size; begins = is.begins; whole = is.whole; low = is.low; high = is.high }
+    in
+    all-append (IsPlaced (with_entry machine e)) machine.entries e
+    (λ k d less. again (get_or machine.entries k d) (all k d less)) (again e here)
 
-pub kept-next : (machine : Machine) (t next : ExportTable) (m : Module) (e : Entry) (named : List Named) → IsKept machine t → first (placement_tests machine m) ≡ None → e ≡ entry_at machine m (module_base machine m) → map named_pair named ≡ map (export_pair (Some e.loaded.name)) e.exports → ((x : List ℕ) → standing_of next x ≡ option_or (standing_of t x) (standing_in x named)) → IsDistinct bytes_eq (entry_names (with_entry machine e)) → IsDistinct bytes_eq (exported_names (with_entry machine e)) → IsKept (with_entry machine e) next
+pub kept-next : (machine : Machine) (t next : ExportTable) (m : Module) (e : Entry)
+    (named : List Named)
+    → IsKept machine t → first (placement_tests machine m) ≡ None
+    → e ≡ entry_at machine m (module_base machine m)
+    → map named_pair named ≡ map (export_pair (Some e.loaded.name)) e.exports
+    → ((x : List ℕ) → standing_of next x ≡ option_or (standing_of t x) (standing_in x named))
+    → IsDistinct bytes_eq (entry_names (with_entry machine e))
+    → IsDistinct bytes_eq (exported_names (with_entry machine e))
+    → IsKept (with_entry machine e) next
 kept-next machine t next m e named kept passed is same entered names distinct = record {
   names = names;
   exports = distinct;
@@ -172,8 +222,12 @@ kept-next machine t next m e named kept passed is same entered names distinct = 
     at = λ x.
         entered x
         ∙ ap (λ o. option_or o (standing_in x named)) (kept.keeps.at x)
-        ∙ ap (option_or (table machine x)) (standing_in-is x (Some e.loaded.name) named e.exports same)
+        ∙ ap (option_or (table machine x))
+        (standing_in-is x (Some e.loaded.name) named e.exports same)
         ∙ sym (under-next machine e x);
   };
-  placed = placed-next machine e kept.placed (subst (IsPlaced machine) (sym is) (placed-new machine m (module_base machine m) (module-gap machine m passed)));
+  placed
+      = placed-next machine e kept.placed
+      (subst (IsPlaced machine) (sym is)
+      (placed-new machine m (module_base machine m) (module-gap machine m passed)));
 }

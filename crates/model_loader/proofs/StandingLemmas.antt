@@ -1,5 +1,6 @@
 -- The tests of needs, by a table that keeps what is bound.
-use Rattle.std.proofs.Common.{◌≡◌, ◌∙◌, ℕ, Bool, true, false, List, [], ◌∷◌, Some, refl, sym, ap, cond, map}
+use Rattle.std.proofs.Common.{◌≡◌, ◌∙◌, ℕ, Bool, true, false, List, [], ◌∷◌, Some, refl, sym, ap}
+use Rattle.std.proofs.Common.{cond, map}
 use Rattle.std.specs.Prelude.{find, option_map}
 use Rattle.std.specs.Str.{bytes_eq}
 use Rattle.std.proofs.lemmas.Slice.Eq.{bytes_eq-Decides}
@@ -7,32 +8,44 @@ use Rattle.module_facts.specs.declared.facts.Facts.{Facts}
 use Rattle.module_facts.specs.declared.facts.Need.{Need as FactsNeed}
 use Rattle.model_loader.specs.declared.standing.ExportTable.{ExportTable}
 use Rattle.model_loader.specs.declared.needs.Check.{Check}
-use Rattle.model_loader.specs.Machine.{Machine, bound_export, facts_face, facts_need, standing_export}
+use Rattle.model_loader.specs.Machine.{Machine, bound_export, facts_face, facts_need}
+use Rattle.model_loader.specs.Machine.{standing_export}
 use Rattle.model_loader.specs.NeedTests.{need_fails, test_of, fault_of}
 use Rattle.model_loader.specs.Standing.{Keeps}
 use Rattle.model_loader.specs.Step.{need_test}
 
 -- The first item that passes a test, of a list made by a function.
-pub find-map : {X Y : Type 0} (p : Y → Bool) (f : X → Y) (xs : List X) → find p (map f xs) ≡ option_map f (find (λ x. p (f x)) xs)
+pub find-map : {X Y : Type 0} (p : Y → Bool) (f : X → Y) (xs : List X)
+    → find p (map f xs) ≡ option_map f (find (λ x. p (f x)) xs)
 find-map p f [] = refl
 find-map p f (x ∷ xs) =
-    elim (p (f x)) as (λ b. cond b (Some (f x)) (find p (map f xs)) ≡ option_map f (cond b (Some x) (find (λ y. p (f y)) xs))) [
+    elim (p (f x)) as
+    (λ b. cond b (Some (f x)) (find p (map f xs))
+    ≡ option_map f (cond b (Some x) (find (λ y. p (f y)) xs))) [
       | true ↦ refl
       | false ↦ find-map p f xs
     ]
 
 -- Tests that answer alike find alike.
-pub find-same : {X : Type 0} (p q : X → Bool) → ((x : X) → p x ≡ q x) → (xs : List X) → find p xs ≡ find q xs
+pub find-same : {X : Type 0} (p q : X → Bool) → ((x : X) → p x ≡ q x) → (xs : List X)
+    → find p xs ≡ find q xs
 find-same p q same [] = refl
 find-same p q same (x ∷ xs) =
-    ap (λ b. cond b (Some x) (find p xs)) (same x) ∙ ap (cond (q x) (Some x)) (find-same p q same xs)
+    ap (λ b. cond b (Some x) (find p xs)) (same x)
+    ∙ ap (cond (q x) (Some x)) (find-same p q same xs)
 
 pub same_name : (y x : List ℕ) → bytes_eq y x ≡ true → y ≡ x
 same_name y x is = (bytes_eq-Decides y x).0 is
 
 -- The test of a need over a machine whose names a table keeps.
-pub need_test-is : (machine : Machine) (t : ExportTable) (f : Facts) (check : Check) → Keeps t machine → need_test machine f (test_of check) (fault_of check) ≡ option_map (λ (n : FactsNeed). fault_of check n.name) (find (need_fails check t f) f.needs)
+pub need_test-is : (machine : Machine) (t : ExportTable) (f : Facts) (check : Check)
+    → Keeps t machine
+    → need_test machine f (test_of check) (fault_of check)
+    ≡ option_map (λ (n : FactsNeed). fault_of check n.name)
+    (find (need_fails check t f) f.needs)
 need_test-is machine t f check keeps =
     ap (option_map (λ (n : FactsNeed). fault_of check n.name))
-    (find-same (λ n. test_of check (bound_export machine n.name) (facts_face f) (facts_need n)) (need_fails check t f)
-    (λ n. ap (λ o. test_of check (option_map (standing_export n.name) o) (facts_face f) (facts_need n)) (sym (keeps.at n.name))) f.needs)
+    (find-same (λ n. test_of check (bound_export machine n.name) (facts_face f) (facts_need n))
+    (need_fails check t f)
+    (λ n. ap (λ o. test_of check (option_map (standing_export n.name) o) (facts_face f)
+    (facts_need n)) (sym (keeps.at n.name))) f.needs)

@@ -2,9 +2,13 @@
 use Rattle.std.specs.Prelude.{ℕ, List, ◌++◌, codes}
 use Rattle.std.specs.Fmt.{decimal}
 use Rattle.image_layout.specs.declared.fault.LayFault.{LayFault}
-use Rattle.image_layout.specs.declared.fault.LayFault.TheVariants.{Overflow as TooWide, Memory as NoMemory}
+use Rattle.image_layout.specs.declared.fault.LayFault.TheVariants.{Overflow as TooWide}
+use Rattle.image_layout.specs.declared.fault.LayFault.TheVariants.{Memory as NoMemory}
 use Rattle.model_loader.specs.declared.fault.LoadFault.{LoadFault}
-use Rattle.model_loader.specs.declared.fault.LoadFault.TheVariants.{AlreadyLoaded, MissingSymbol, GplOnly, VersionDiffers, NotImported, ExportTaken, RegionFull, Overflow, Memory}
+use Rattle.model_loader.specs.declared.fault.LoadFault.TheVariants.{AlreadyLoaded, MissingSymbol}
+use Rattle.model_loader.specs.declared.fault.LoadFault.TheVariants.{GplOnly, VersionDiffers}
+use Rattle.model_loader.specs.declared.fault.LoadFault.TheVariants.{NotImported, ExportTaken}
+use Rattle.model_loader.specs.declared.fault.LoadFault.TheVariants.{RegionFull, Overflow, Memory}
 
 -- The text of a refused load.
 abbrev pub load_fault_text : LoadFault → List ℕ
@@ -15,7 +19,8 @@ load_fault_text (VersionDiffers name) = codes "version of " ++ name ++ codes " d
 load_fault_text (NotImported name) = codes "namespace of " ++ name ++ codes " not imported"
 load_fault_text (ExportTaken name owner) = name ++ codes " is taken by " ++ owner
 load_fault_text (RegionFull pages) = codes "region full, " ++ (decimal pages ++ codes " pages")
-load_fault_text (Overflow section entry) = codes "overflow at section " ++ (decimal section ++ (codes " entry " ++ decimal entry))
+load_fault_text (Overflow section entry) =
+    codes "overflow at section " ++ (decimal section ++ (codes " entry " ++ decimal entry))
 load_fault_text Memory = codes "out of memory"
 
 -- A fault of an image as one of a load.

@@ -1,6 +1,7 @@
 -- The place of a module: the lowest page of the region such that its image meets no other. That it
 -- is the lowest is this project's choice.
-use Rattle.std.specs.Prelude.{ℕ, ◌+◌, ◌*◌, ◌/◌, ◌&&◌, nat_le, nat_lt, not, Bool, List, map, find, length, Option}
+use Rattle.std.specs.Prelude.{ℕ, ◌+◌, ◌*◌, ◌/◌, ◌&&◌, nat_le, nat_lt, not, Bool, List, map, find}
+use Rattle.std.specs.Prelude.{length, Option}
 use Rattle.std.specs.List.{list_any, range_with_len}
 use Rattle.elf_format.specs.declared.section.TheConstants.{PAGE}
 use Rattle.model_loader.specs.declared.entry.Entry.{Entry}

@@ -1,7 +1,8 @@
 -- A machine: the symbols of a kernel with their addresses, a region for modules, and the modules
 -- that were loaded, oldest first. The kernel's struct module, include/linux/module.h, and
 -- find_symbol, kernel/module/main.c.
-use Rattle.std.specs.Prelude.{ℕ, Bool, List, [], ◌∷◌, map, find, Option, None, Some, is_none, option_map, unwrap_or}
+use Rattle.std.specs.Prelude.{ℕ, Bool, List, [], ◌∷◌, map, find, Option, None, Some, is_none}
+use Rattle.std.specs.Prelude.{option_map, unwrap_or}
 use Rattle.std.specs.List.{list_any}
 use Rattle.std.specs.Str.{bytes_eq}
 use Rattle.km_names.specs.First.{first}
@@ -30,7 +31,8 @@ new_machine kernel region = record { kernel = kernel; region = region; entries =
 
 -- Why a kernel has no machine: its first export without an address.
 abbrev pub kernel_fault : List KernelExport → Option MachineFault
-kernel_fault exports = option_map (λ e. KernelWithoutAddress e.name) (find (λ e. is_none e.address) exports)
+kernel_fault exports =
+    option_map (λ e. KernelWithoutAddress e.name) (find (λ e. is_none e.address) exports)
 
 -- An export, a need, and the module of an entry, as symbol binding sees them.
 abbrev pub export_face : PlacedExport → Export
@@ -54,7 +56,14 @@ is_loaded machine name = list_any (λ e. bytes_eq e.loaded.name name) machine.en
 
 -- An export of the kernel at its address.
 abbrev pub kernel_placed : KernelExport → PlacedExport
-kernel_placed e = record { name = e.name; crc = e.crc; gpl = e.gpl; space = e.space; address = unwrap_or e.address 0 }
+kernel_placed e =
+    record {
+      name = e.name;
+      crc = e.crc;
+      gpl = e.gpl;
+      space = e.space;
+      address = unwrap_or e.address 0;
+    }
 
 -- The export of this name.
 abbrev pub export_named : List ℕ → List PlacedExport → Option PlacedExport
@@ -63,7 +72,8 @@ export_named x exports = find (λ e. bytes_eq e.name x) exports
 -- What the table of a machine has of an export of an owner, which is a module by its name or the
 -- kernel.
 abbrev pub standing : Option (List ℕ) → PlacedExport → Standing
-standing owner e = record { crc = e.crc; gpl = e.gpl; space = e.space; address = e.address; owner = owner }
+standing owner e =
+    record { crc = e.crc; gpl = e.gpl; space = e.space; address = e.address; owner = owner }
 
 -- The table of a machine: what a name is bound to, with its address and its owner. It is the
 -- kernel's export, and otherwise the export of the module that was loaded first.
@@ -71,7 +81,8 @@ unfoldable pub table : Machine → List ℕ → Option Standing
 table machine x =
     first (
     option_map (standing None) (export_named x (map kernel_placed machine.kernel.exports))
-    ∷ first (map (λ e. option_map (standing (Some e.loaded.name)) (export_named x e.exports)) machine.entries)
+    ∷ first (map (λ e. option_map (standing (Some e.loaded.name)) (export_named x e.exports))
+    machine.entries)
     ∷ [])
 
 -- The export of this name, by what a table has of it.

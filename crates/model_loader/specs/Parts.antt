@@ -13,7 +13,14 @@ use Rattle.model_loader.specs.Step.{bound_need}
 
 -- An export of a module, by the addresses of the module's symbols.
 abbrev pub placed_by : List ℕ → FactsExport → PlacedExport
-placed_by addresses e = record { name = e.name; crc = e.crc; gpl = e.gpl; space = e.space; address = slice_index addresses e.symbol }
+placed_by addresses e =
+    record {
+      name = e.name;
+      crc = e.crc;
+      gpl = e.gpl;
+      space = e.space;
+      address = slice_index addresses e.symbol;
+    }
 
 -- The entry of a module at a base, by its image and the addresses of its symbols.
 abbrev pub entry_by : Module → ℕ → List ℕ → List ℕ → Entry
@@ -27,7 +34,8 @@ entry_by m base image addresses = record {
 }
 
 -- A machine has these parts.
-pub record HasParts (machine : Machine) (region : Region) (entries : List Entry) (t : ExportTable) : Type 0 where
+pub record HasParts (machine : Machine) (region : Region) (entries : List Entry) (t : ExportTable) :
+    Type 0 where
   pub region_is : machine.region ≡ region
   pub entries_are : machine.entries ≡ entries
   pub keeps : Keeps t machine

@@ -1,5 +1,6 @@
 -- Machines whose entries are bound, and sound machines.
-use Rattle.std.specs.Prelude.{◌≡◌, ℕ, ◌+◌, ◌%◌, ◌≤◌, ◌⊎◌, true, false, List, [], ◌∷◌, ◌++◌, length, map, flat_map, All, AllPairs, Some}
+use Rattle.std.specs.Prelude.{◌≡◌, ℕ, ◌+◌, ◌%◌, ◌≤◌, ◌⊎◌, true, false, List, [], ◌∷◌, ◌++◌, length}
+use Rattle.std.specs.Prelude.{map, flat_map, All, AllPairs, Some}
 use Rattle.std.specs.List.{IsDistinct}
 use Rattle.std.specs.Str.{bytes_eq}
 use Rattle.module_facts.specs.declared.module.Module.{Module}
@@ -22,7 +23,8 @@ pub record IsBound (machine : Machine) (m : Face) (n : Need) : Type 0 where
 -- the module may use it.
 abbrev pub Agrees : Machine → Face → Need → Type 0
 Agrees machine m n =
-    (e : Export) → bound_export machine n.name ≡ Some e → sees m e ≡ true → (agree n.crc e.crc ≡ true) × (may_use m e ≡ true)
+    (e : Export) → bound_export machine n.name ≡ Some e → sees m e ≡ true
+    → (agree n.crc e.crc ≡ true) × (may_use m e ≡ true)
 
 -- An entry is a module's over a machine, and each strong need of the module is bound there.
 pub record IsEntryOf (machine : Machine) (m : Module) (e : Entry) : Type 0 where
@@ -30,7 +32,8 @@ pub record IsEntryOf (machine : Machine) (m : Module) (e : Entry) : Type 0 where
   -- its place.
   pub entry : e ≡ entry_at machine m e.loaded.base
   -- Each strong need is bound.
-  pub strong : All (λ (n : Need). n.weak ≡ false → IsBound machine (entry_face e) n) (entry_face e).needs
+  pub strong : All (λ (n : Need). n.weak ≡ false → IsBound machine (entry_face e) n)
+      (entry_face e).needs
   -- Each need that is exported and seen agrees in version, and may be used.
   pub agreeing : All (Agrees machine (entry_face e)) (entry_face e).needs
 
@@ -40,7 +43,8 @@ AreBoundAfter machine before [] [] = Unit {0}
 AreBoundAfter machine before [] (e ∷ es) = ⊥
 AreBoundAfter machine before (m ∷ ms) [] = ⊥
 AreBoundAfter machine before (m ∷ ms) (e ∷ es) =
-    IsEntryOf (record machine { entries = before }) m e × AreBoundAfter machine (before ++ e ∷ []) ms es
+    IsEntryOf (record machine { entries = before }) m e
+    × AreBoundAfter machine (before ++ e ∷ []) ms es
 
 -- All entries of a machine of these modules are bound.
 abbrev pub AllBound : Machine → List Module → Type 0
@@ -52,7 +56,8 @@ entry_names machine = map (λ e. e.loaded.name) machine.entries
 
 abbrev pub exported_names : Machine → List (List ℕ)
 exported_names machine =
-    map (λ e. e.name) machine.kernel.exports ++ flat_map (λ e. map (λ x. x.name) e.exports) machine.entries
+    map (λ e. e.name) machine.kernel.exports
+    ++ flat_map (λ e. map (λ x. x.name) e.exports) machine.entries
 
 -- The image of an entry has whole pages, and lies in the region.
 pub record IsPlaced (machine : Machine) (e : Entry) : Type 0 where
@@ -64,7 +69,9 @@ pub record IsPlaced (machine : Machine) (e : Entry) : Type 0 where
 
 -- The images of two entries share no byte.
 abbrev pub AreApart : Entry → Entry → Type 0
-AreApart a b = (a.loaded.base + length a.image ≤ b.loaded.base) ⊎ (b.loaded.base + length b.image ≤ a.loaded.base)
+AreApart a b =
+    (a.loaded.base + length a.image ≤ b.loaded.base)
+    ⊎ (b.loaded.base + length b.image ≤ a.loaded.base)
 
 -- A machine of these modules is sound: all entries are bound, no two modules have one name, and no
 -- name is exported twice. The images are in the region, on whole pages, and no two share a byte.

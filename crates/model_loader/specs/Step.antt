@@ -1,6 +1,8 @@
 -- A load: why a machine refuses a module, and the machine with the module. The kernel's load_module
 -- and resolve_symbol, kernel/module/main.c.
-use Rattle.std.specs.Prelude.{ℕ, ◌/◌, ◌-◌, ◌^◌, ◌==◌, nat_lt, Bool, List, [], ◌∷◌, ◌++◌, map, find, length, Option, Some, None, is_none, option_map, unwrap_or, option_and_then, Result, Ok, Err, if◌then◌else◌}
+use Rattle.std.specs.Prelude.{ℕ, ◌/◌, ◌-◌, ◌^◌, ◌==◌, nat_lt, Bool, List, [], ◌∷◌, ◌++◌, map, find}
+use Rattle.std.specs.Prelude.{length, Option, Some, None, is_none, option_map, unwrap_or}
+use Rattle.std.specs.Prelude.{option_and_then, Result, Ok, Err, if◌then◌else◌}
 use Rattle.std.specs.List.{range_with_len}
 use Rattle.std.specs.Option.{option_map_or}
 use Rattle.elf_format.specs.declared.section.TheConstants.{PAGE}
@@ -9,18 +11,23 @@ use Rattle.module_facts.specs.declared.facts.Export.{Export as FactsExport}
 use Rattle.module_facts.specs.declared.facts.Need.{Need as FactsNeed}
 use Rattle.module_facts.specs.declared.facts.Facts.{Facts}
 use Rattle.module_facts.specs.declared.module.Module.{Module}
-use Rattle.symbol_binding.specs.Needs.{NeedTest, is_seen, is_missing, is_hidden, is_other_version, is_barred}
+use Rattle.symbol_binding.specs.Needs.{NeedTest, is_seen, is_missing, is_hidden, is_other_version}
+use Rattle.symbol_binding.specs.Needs.{is_barred}
 use Rattle.symbol_binding.specs.Unmet.{vmlinux}
 use Rattle.x86_relocate.specs.declared.patch.Overflow.{Overflow as TooWide}
 use Rattle.image_layout.specs.Offsets.{image_size}
 use Rattle.image_layout.specs.Symbols.{address, addresses}
 use Rattle.image_layout.specs.Laid.{laid, overflow}
 use Rattle.model_loader.specs.declared.fault.LoadFault.{LoadFault}
-use Rattle.model_loader.specs.declared.fault.LoadFault.TheVariants.{AlreadyLoaded, MissingSymbol, GplOnly, VersionDiffers, NotImported, ExportTaken, RegionFull, Overflow}
+use Rattle.model_loader.specs.declared.fault.LoadFault.TheVariants.{AlreadyLoaded, MissingSymbol}
+use Rattle.model_loader.specs.declared.fault.LoadFault.TheVariants.{GplOnly, VersionDiffers}
+use Rattle.model_loader.specs.declared.fault.LoadFault.TheVariants.{NotImported, ExportTaken}
+use Rattle.model_loader.specs.declared.fault.LoadFault.TheVariants.{RegionFull, Overflow}
 use Rattle.model_loader.specs.declared.entry.PlacedExport.{PlacedExport}
 use Rattle.model_loader.specs.declared.entry.BoundNeed.{BoundNeed}
 use Rattle.model_loader.specs.declared.entry.Entry.{Entry}
-use Rattle.model_loader.specs.Machine.{Machine, bound_export, facts_face, facts_need, is_loaded, table}
+use Rattle.model_loader.specs.Machine.{Machine, bound_export, facts_face, facts_need, is_loaded}
+use Rattle.model_loader.specs.Machine.{table}
 use Rattle.model_loader.specs.Gap.{gap}
 
 -- A test that fails with this fault if the condition holds.
@@ -36,11 +43,13 @@ need_address machine f n =
 -- The address of the symbol k if it is defined elsewhere: the address of the need that it states.
 -- Symbol 0 and `_GLOBAL_OFFSET_TABLE_` state none, and have 0.
 abbrev pub given_address : Machine → Facts → ℕ → ℕ
-given_address machine f k = option_map_or (need_address machine f) (find (λ n. n.symbol == k) f.needs) 0
+given_address machine f k =
+    option_map_or (need_address machine f) (find (λ n. n.symbol == k) f.needs) 0
 
 -- The addresses of all symbols of a module that are defined elsewhere.
 unfoldable pub given_addresses : Machine → Module → List ℕ
-given_addresses machine m = map (given_address machine m.facts) (range_with_len 0 (length m.object.symbols))
+given_addresses machine m =
+    map (given_address machine m.facts) (range_with_len 0 (length m.object.symbols))
 
 -- The addresses of all symbols of a module whose image is at a base.
 abbrev pub symbol_addresses : Machine → Module → ℕ → List ℕ
@@ -57,11 +66,13 @@ named_pages n = if nat_lt n (2 ^ 64) then n else 2 ^ 64 - 1
 -- The test that no need of a module fails the test of needs.
 abbrev pub need_test : Machine → Facts → NeedTest → (List ℕ → LoadFault) → Option LoadFault
 need_test machine f test fault =
-    option_map (λ n. fault n.name) (find (λ n. test (bound_export machine n.name) (facts_face f) (facts_need n)) f.needs)
+    option_map (λ n. fault n.name)
+    (find (λ n. test (bound_export machine n.name) (facts_face f) (facts_need n)) f.needs)
 
 -- The test that the name of an export isn't bound yet.
 abbrev pub taken_test : Machine → FactsExport → Option LoadFault
-taken_test machine e = option_map (λ s. ExportTaken e.name (unwrap_or s.owner vmlinux)) (table machine e.name)
+taken_test machine e =
+    option_map (λ s. ExportTaken e.name (unwrap_or s.owner vmlinux)) (table machine e.name)
 
 -- The tests of the names of a module, in order.
 abbrev pub name_tests : Machine → Facts → List (Option LoadFault)
@@ -77,13 +88,15 @@ name_tests machine f =
 -- The first word of a module at a base that doesn't fit.
 abbrev pub overflow_fault : Machine → Module → ℕ → Option LoadFault
 overflow_fault machine m base =
-    option_map (λ (o : TooWide). Overflow o.section o.entry) (overflow m.object base (symbol_addresses machine m base))
+    option_map (λ (o : TooWide). Overflow o.section o.entry)
+    (overflow m.object base (symbol_addresses machine m base))
 
 -- The tests of the place of a module, in order: the region has a gap for it, and all words fit
 -- there.
 abbrev pub placement_tests : Machine → Module → List (Option LoadFault)
 placement_tests machine m =
-    fault_if (is_none (gap machine (module_size m))) (RegionFull (named_pages (module_size m / PAGE)))
+    fault_if (is_none (gap machine (module_size m)))
+    (RegionFull (named_pages (module_size m / PAGE)))
     ∷ option_and_then (overflow_fault machine m) (gap machine (module_size m))
     ∷ []
 
@@ -127,4 +140,5 @@ module_base machine m = unwrap_or (gap machine (module_size m)) 0
 -- A step: the refusal, or the machine with the entry of the module in the lowest gap.
 unfoldable pub step : Machine → Module → Result Machine LoadFault
 step machine m =
-    option_map_or Err (refusal machine m) (Ok (with_entry machine (entry_at machine m (module_base machine m))))
+    option_map_or Err (refusal machine m)
+    (Ok (with_entry machine (entry_at machine m (module_base machine m))))

@@ -1,6 +1,7 @@
 -- Which modules in a machine use which, and a machine without one of them. The kernel's use_module
 -- and delete_module, kernel/module/main.c.
-use Rattle.std.specs.Prelude.{◌≡◌, ℕ, ◌&&◌, nat_eq, nat_lt, Bool, false, List, [], ◌∷◌, length, remove, slice_get}
+use Rattle.std.specs.Prelude.{◌≡◌, ℕ, ◌&&◌, nat_eq, nat_lt, Bool, false, List, [], ◌∷◌, length}
+use Rattle.std.specs.Prelude.{remove, slice_get}
 use Rattle.std.specs.List.{list_any, range_with_len}
 use Rattle.std.specs.Option.{option_map_or}
 use Rattle.symbol_binding.specs.Needs.{is_seen}
@@ -10,7 +11,8 @@ use Rattle.model_loader.specs.Machine.{Machine, export_named}
 
 -- Whether the other entry exports a need of the user, with an export that the user sees.
 abbrev pub is_met_by : Entry → Entry → BoundNeed → Bool
-is_met_by user other n = option_map_or (λ x. is_seen user.free x.gpl) (export_named n.name other.exports) false
+is_met_by user other n =
+    option_map_or (λ x. is_seen user.free x.gpl) (export_named n.name other.exports) false
 
 -- Whether one entry uses the other: the other exports one of its needs, and it sees the export.
 abbrev pub uses_entry : Entry → Entry → Bool
@@ -20,7 +22,8 @@ uses_entry user other = list_any (is_met_by user other) user.needs
 abbrev pub binds : Machine → ℕ → ℕ → Bool
 binds machine k j =
     nat_lt j k
-    && option_map_or (λ user. option_map_or (uses_entry user) (slice_get machine.entries j) false) (slice_get machine.entries k) false
+    && option_map_or (λ user. option_map_or (uses_entry user) (slice_get machine.entries j) false)
+    (slice_get machine.entries k) false
 
 -- All places of a machine's entries, oldest first, and the name of the entry at one.
 abbrev pub places : Machine → List ℕ
@@ -32,7 +35,8 @@ name_at machine k = option_map_or (λ e. e.loaded.name) (slice_get machine.entri
 -- For each entry the places of the entries that it binds to, in any order, each at least once.
 pub record AreUses (machine : Machine) (uses : List (List ℕ)) : Type 0 where
   pub counted : length uses ≡ length machine.entries
-  pub at : (k j : ℕ) → option_map_or (list_any (nat_eq j)) (slice_get uses k) false ≡ binds machine k j
+  pub at : (k j : ℕ)
+      → option_map_or (list_any (nat_eq j)) (slice_get uses k) false ≡ binds machine k j
 
 -- No entry binds to the entry j.
 abbrev pub IsUnused : Machine → ℕ → Type 0

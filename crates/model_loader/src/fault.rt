@@ -111,7 +111,8 @@ impl From<LayFault> for LoadFault {
 
 /// Returns the text for a load that finds no gap.
 fn full_text(alloc: Global, pages: u64) -> Result<Blob, AllocError>
-    ensures { IfOk result (λ text. text ≡ codes "region full, " ++ (decimal pages ++ codes " pages")) }
+    ensures { IfOk result
+        (λ text. text ≡ codes "region full, " ++ (decimal pages ++ codes " pages")) }
 {
     let text = format!(in alloc; "region full, {pages} pages")?;
     Ok(Blob::from_vec(text.into_bytes()))
@@ -119,7 +120,10 @@ fn full_text(alloc: Global, pages: u64) -> Result<Blob, AllocError>
 
 /// Returns the text for a word that doesn't fit.
 fn overflow_text(alloc: Global, section: u32, entry: u32) -> Result<Blob, AllocError>
-    ensures { IfOk result (λ text. text ≡ codes "overflow at section " ++ (decimal section ++ (codes " entry " ++ decimal entry))) }
+    ensures { IfOk result
+        (λ text. text
+        ≡ codes "overflow at section "
+        ++ (decimal section ++ (codes " entry " ++ decimal entry))) }
 {
     let text = format!(in alloc; "overflow at section {section} entry {entry}")?;
     Ok(Blob::from_vec(text.into_bytes()))

@@ -42,7 +42,9 @@ pub(crate) fn given_addresses(
     count: u32,
 ) -> Result<Vec<u64>, AllocError>
     requires { All (λ (n : Need). n.symbol < count) facts.now.needs }
-    ensures { IfOk result (λ v. v.items ≡ map (given_by table.now facts.now facts.now.needs) (range_with_len 0 count)) }
+    ensures { IfOk result
+        (λ v. v.items
+        ≡ map (given_by table.now facts.now facts.now.needs) (range_with_len 0 count)) }
 {
     let needs = facts.needs.as_slice();
     let mut given = zeros(alloc, count as usize)?;

@@ -1,12 +1,16 @@
 // The machine, and loads into it.
 
-ghost use Rattle.std.specs.Prelude.{◌≡◌, ◌<◌, ◌≤◌, ◌⊎◌, ◌++◌, ◌∷◌, [], ℕ, List, None, Ok, Err, Some, OnOk, OnErr, IfErr, IfOk, find, length, map, option_map, remove, vec_capacity, vec_len, slice_get, option_copied, is_none, false, if◌then◌else◌};
+ghost use Rattle.std.specs.Prelude.{◌≡◌, ◌<◌, ◌≤◌, ◌⊎◌, ◌++◌, ◌∷◌, [], ℕ, List, None, Ok, Err};
+ghost use Rattle.std.specs.Prelude.{Some, OnOk, OnErr, IfErr, IfOk, find, length, map, option_map};
+ghost use Rattle.std.specs.Prelude.{remove, vec_capacity, vec_len, slice_get, option_copied};
+ghost use Rattle.std.specs.Prelude.{is_none, false, if◌then◌else◌};
 ghost use Rattle.std.specs.HashMap.{spare};
 ghost use Rattle.std.specs.Option.{option_or};
 ghost use Rattle.std.specs.Str.{bytes_eq};
 ghost use Rattle.kernel_exports.specs.declared.kernel.Kernel.{Kernel};
 ghost use Rattle.module_facts.specs.declared.module.Module.{Module};
-ghost use Rattle.model_loader.specs.Machine.{export_named, kernel_fault, kernel_placed, new_machine, standing};
+ghost use Rattle.model_loader.specs.Machine.{export_named, kernel_fault, kernel_placed};
+ghost use Rattle.model_loader.specs.Machine.{new_machine, standing};
 ghost use Rattle.model_loader.specs.declared.fault.MachineFault.TheVariants.{KernelWithoutAddress};
 ghost use Rattle.model_loader.specs.Standing.{export_pair, named_pair, standing_in, standing_of};
 ghost use Rattle.model_loader.specs.Sound.{IsSound};
@@ -42,9 +46,11 @@ impl Model for Machine {
 
     ghost Value = { Machine };
 
-    ghost view = { λ m. record { kernel = m.kernel; region = m.region; entries = m.entries.items } };
+    ghost view = { λ m. record
+        { kernel = m.kernel; region = m.region; entries = m.entries.items } };
 
-    ghost invariant = { λ m. IsKept (record { kernel = m.kernel; region = m.region; entries = m.entries.items }) m.table };
+    ghost invariant = { λ m. IsKept
+        (record { kernel = m.kernel; region = m.region; entries = m.entries.items }) m.table };
 }
 
 /// The place of a loaded module.
@@ -93,7 +99,10 @@ fn enter_export(
     export: &KernelExport,
 ) -> Result<(), MachineFault>
     ensures table { OnOk result ((x : List ℕ) → standing_of table.new x
-        ≡ option_or (standing_of table.old x) (if bytes_eq export.now.name x then Some (standing None (kernel_placed export.now)) else None)) }
+        ≡ option_or (standing_of table.old x)
+        (if bytes_eq export.now.name x
+        then Some (standing None (kernel_placed export.now))
+        else None)) }
     ensures passed { OnOk result (is_none export.now.address ≡ false) }
     ensures fault { IfErr result (λ e. (e ≡ MachineFault.Memory)
         ⊎ ((export.now.address ≡ None) × (e ≡ KernelWithoutAddress export.now.name))) }
@@ -109,9 +118,14 @@ fn enter_export(
 
 /// Returns the table of the exports of a kernel.
 fn kernel_table(alloc: Global, kernel: &Kernel) -> Result<ExportTable, MachineFault>
-    ensures table { IfOk result (λ t. (x : List ℕ) → standing_of t x ≡ option_map (standing None) (export_named x (map kernel_placed kernel.now.exports))) }
+    ensures table { IfOk result
+        (λ t. (x : List ℕ)
+        → standing_of t x
+        ≡ option_map (standing None)
+        (export_named x (map kernel_placed kernel.now.exports))) }
     ensures passed { OnOk result (kernel_fault kernel.now.exports ≡ None) }
-    ensures fault { IfErr result (λ e. (e ≡ MachineFault.Memory) ⊎ (kernel_fault kernel.now.exports ≡ Some e)) }
+    ensures fault { IfErr result
+        (λ e. (e ≡ MachineFault.Memory) ⊎ (kernel_fault kernel.now.exports ≡ Some e)) }
 {
     let mut table = ExportTable::new(alloc);
     for export in kernel.exports.as_slice() {
@@ -125,7 +139,9 @@ fn enter(entries: &mut Vec<Entry>, table: &mut ExportTable, prepared: Prepared)
     requires entries { vec_len entries.old < vec_capacity entries.old }
     requires names { length prepared.named.items ≤ spare table.old.standings }
     ensures entries { entries.new.items ≡ entries.old.items ++ prepared.entry ∷ [] }
-    ensures table { (x : List ℕ) → standing_of table.new x ≡ option_or (standing_of table.old x) (standing_in x prepared.named.items) }
+    ensures table { (x : List ℕ)
+        → standing_of table.new x
+        ≡ option_or (standing_of table.old x) (standing_in x prepared.named.items) }
 {
     let Prepared { entry, named } = prepared;
     table.enter_all(named);
@@ -142,7 +158,8 @@ impl Machine {
     pub fn new(alloc: Global, kernel: Kernel, region: Region) -> Result<Machine, MachineFault>
         ensures machine { IfOk result (λ m. m ≡ new_machine kernel region) }
         ensures passed { OnOk result (kernel_fault kernel.exports ≡ None) }
-        ensures fault { IfErr result (λ e. (e ≡ MachineFault.Memory) ⊎ (kernel_fault kernel.exports ≡ Some e)) }
+        ensures fault { IfErr result
+            (λ e. (e ≡ MachineFault.Memory) ⊎ (kernel_fault kernel.exports ≡ Some e)) }
     {
         let table = kernel_table(alloc, &kernel)?;
         Ok(Machine {
@@ -156,10 +173,14 @@ impl Machine {
 
     /// Returns the prepared entry of a module, after all tests that it must pass.
     fn ready(&self, module: &Module) -> Result<Prepared, LoadFault>
-        ensures entry { IfOk result (λ p. p.entry ≡ entry_at self.now «module».now (module_base self.now «module».now)) }
-        ensures named { IfOk result (λ p. map named_pair p.named.items ≡ map (export_pair (Some p.entry.loaded.name)) p.entry.exports) }
+        ensures entry { IfOk result
+            (λ p. p.entry ≡ entry_at self.now «module».now (module_base self.now «module».now)) }
+        ensures named { IfOk result
+            (λ p. map named_pair p.named.items
+            ≡ map (export_pair (Some p.entry.loaded.name)) p.entry.exports) }
         ensures passed { OnOk result (refusal self.now «module».now ≡ None) }
-        ensures fault { IfErr result (λ e. (e ≡ LoadFault.Memory) ⊎ (refusal self.now «module».now ≡ Some e)) }
+        ensures fault { IfErr result
+            (λ e. (e ≡ LoadFault.Memory) ⊎ (refusal self.now «module».now ≡ Some e)) }
     {
         check_names(self.alloc, &self.entries, &self.table, &module.facts)?;
         let prepared = prepare(self.alloc, &self.region, &self.entries, &self.table, module)?;
@@ -175,10 +196,16 @@ impl Machine {
     /// The fault of the first of the eight tests that fails, or `Memory`.
     pub fn load(&mut self, module: &Module) -> Result<LoadedAt, LoadFault>
         ensures step { OnOk result (step self.old «module».now ≡ Ok self.new) }
-        ensures at { IfOk result (λ at. at ≡ record { base = module_base self.old «module».now; size = module_size «module».now }) }
-        ensures fault { IfErr result (λ e. (e ≡ LoadFault.Memory) ⊎ (step self.old «module».now ≡ Err e)) }
+        ensures at { IfOk result
+            (λ at. at
+            ≡ record
+            { base = module_base self.old «module».now; size = module_size «module».now }) }
+        ensures fault { IfErr result
+            (λ e. (e ≡ LoadFault.Memory) ⊎ (step self.old «module».now ≡ Err e)) }
         ensures unchanged { OnErr result (self.new ≡ self.old) }
-        ensures sound { OnOk result ((modules : List Module) → IsSound self.old modules → IsSound self.new (modules ++ «module».now ∷ [])) }
+        ensures sound { OnOk result
+            ((modules : List Module) → IsSound self.old modules
+            → IsSound self.new (modules ++ «module».now ∷ [])) }
     {
         let prepared = self.ready(module)?;
         self.entries.reserve(1)?;
@@ -217,7 +244,8 @@ impl Machine {
         requires inside { j < length self.old.entries }
         requires unused { IsUnused self.old j }
         ensures machine { self.new ≡ without self.old j }
-        ensures sound { (modules : List Module) → IsSound self.old modules → IsSound self.new (remove modules j) }
+        ensures sound { (modules : List Module) → IsSound self.old modules
+            → IsSound self.new (remove modules j) }
     {
         let dropped = self.entries.remove(j);
         self.table.forget_all(dropped.exports.as_slice());
@@ -225,7 +253,9 @@ impl Machine {
 
     /// Returns the image of the loaded module of this name.
     pub fn image(&self, name: &[u8]) -> Option<&[u8]>
-        ensures { option_copied result ≡ option_map (λ e. e.image) (find (λ e. bytes_eq e.loaded.name name.now) self.now.entries) }
+        ensures { option_copied result
+            ≡ option_map (λ e. e.image)
+            (find (λ e. bytes_eq e.loaded.name name.now) self.now.entries) }
     {
         for entry in &self.entries {
             if entry.loaded.name.as_bytes() == name {

@@ -30,7 +30,8 @@ pub(crate) fn is_loaded(entries: &[Entry], name: &[u8]) -> bool
 
 /// Returns the refusal of an export whose name is taken.
 fn taken(alloc: Global, export: &Export, standing: &Standing) -> Result<LoadFault, AllocError>
-    ensures { IfOk result (λ e. e ≡ ExportTaken export.now.name (unwrap_or standing.now.owner vmlinux)) }
+    ensures { IfOk result
+        (λ e. e ≡ ExportTaken export.now.name (unwrap_or standing.now.owner vmlinux)) }
 {
     let owner = match &standing.owner {
         Some(owner) => owner.as_bytes(),
@@ -49,7 +50,9 @@ pub(crate) fn check_exports(
     facts: &Facts,
 ) -> Result<(), LoadFault>
     ensures passed { OnOk result (first (map (taken_by table.now) facts.now.exports) ≡ None) }
-    ensures fault { IfErr result (λ e. (e ≡ LoadFault.Memory) ⊎ (first (map (taken_by table.now) facts.now.exports) ≡ Some e)) }
+    ensures fault { IfErr result
+        (λ e. (e ≡ LoadFault.Memory)
+        ⊎ (first (map (taken_by table.now) facts.now.exports) ≡ Some e)) }
 {
     for export in facts.exports.as_slice() {
         if let Some(standing) = table.get(export.name.as_bytes()) {
@@ -67,9 +70,11 @@ pub(crate) fn check_names(
     table: &ExportTable,
     facts: &Facts,
 ) -> Result<(), LoadFault>
-    ensures passed { OnOk result ((machine : Machine) → machine.entries ≡ entries.now → Keeps table.now machine
+    ensures passed { OnOk result ((machine : Machine) → machine.entries ≡ entries.now
+        → Keeps table.now machine
         → first (name_tests machine facts.now) ≡ None) }
-    ensures fault { IfErr result (λ e. (machine : Machine) → machine.entries ≡ entries.now → Keeps table.now machine
+    ensures fault { IfErr result (λ e. (machine : Machine) → machine.entries ≡ entries.now
+        → Keeps table.now machine
         → (e ≡ LoadFault.Memory) ⊎ (first (name_tests machine facts.now) ≡ Some e)) }
 {
     if is_loaded(entries, facts.name.as_bytes()) {

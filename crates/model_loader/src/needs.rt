@@ -1,6 +1,7 @@
 // The tests of a module's needs.
 
-ghost use Rattle.std.specs.Prelude.{◌≡◌, ◌⊎◌, None, Some, OnOk, IfErr, find, option_map, option_copied};
+ghost use Rattle.std.specs.Prelude.{◌≡◌, ◌⊎◌, None, Some, OnOk, IfErr, find, option_map};
+ghost use Rattle.std.specs.Prelude.{option_copied};
 ghost use Rattle.model_loader.specs.Machine.{Machine, facts_face, facts_need, standing_export};
 ghost use Rattle.model_loader.specs.NeedTests.{fault_of, need_fails, test_of};
 ghost use Rattle.model_loader.specs.Standing.{Keeps};
@@ -28,7 +29,9 @@ pub(crate) enum Check {
 
 /// Returns whether an exported need of a module fails a test.
 fn fails_found(check: Check, found: &Standing, facts: &Facts, need: &Need) -> bool
-    ensures { result ≡ test_of check (Some (standing_export need.now.name found.now)) (facts_face facts.now) (facts_need need.now) }
+    ensures { result
+        ≡ test_of check (Some (standing_export need.now.name found.now)) (facts_face facts.now)
+        (facts_need need.now) }
 {
     let seen = sees(facts.free, found.gpl);
     match check {
@@ -41,7 +44,9 @@ fn fails_found(check: Check, found: &Standing, facts: &Facts, need: &Need) -> bo
 
 /// Returns whether a need of a module fails a test, by what is exported under its name.
 fn fails(check: Check, found: Option<&Standing>, facts: &Facts, need: &Need) -> bool
-    ensures { result ≡ test_of check (option_map (standing_export need.now.name) (option_copied found.entry)) (facts_face facts.now) (facts_need need.now) }
+    ensures { result
+        ≡ test_of check (option_map (standing_export need.now.name) (option_copied found.entry))
+        (facts_face facts.now) (facts_need need.now) }
 {
     match (found, check) {
         (Some(found), _) => fails_found(check, found, facts, need),
@@ -86,7 +91,8 @@ impl Check {
         ensures passed { OnOk result ((machine : Machine) → Keeps table.now machine
             → need_test machine facts.now (test_of self) (fault_of self) ≡ None) }
         ensures fault { IfErr result (λ e. (machine : Machine) → Keeps table.now machine
-            → (e ≡ LoadFault.Memory) ⊎ (need_test machine facts.now (test_of self) (fault_of self) ≡ Some e)) }
+            → (e ≡ LoadFault.Memory)
+            ⊎ (need_test machine facts.now (test_of self) (fault_of self) ≡ Some e)) }
     {
         match first_failing(self, table, facts) {
             None => Ok(()),

@@ -110,7 +110,8 @@ pub(crate) fn named_exports(
     owner: &[u8],
     exports: &List<PlacedExport>,
 ) -> Result<VecDeque<Named>, AllocError>
-    ensures { IfOk result (λ named. map named_pair named.items ≡ map (export_pair (Some owner.now)) exports.now) }
+    ensures { IfOk result
+        (λ named. map named_pair named.items ≡ map (export_pair (Some owner.now)) exports.now) }
 {
     let mut named = VecDeque::new(alloc);
     for export in exports.as_slice() {

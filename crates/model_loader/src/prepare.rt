@@ -1,6 +1,7 @@
 // The entry of a module, made before the machine is changed.
 
-ghost use Rattle.std.specs.Prelude.{◌≡◌, ◌<◌, ◌^◌, ◌/◌, ◌⊎◌, All, None, Some, OnOk, IfErr, IfOk, length, map};
+ghost use Rattle.std.specs.Prelude.{◌≡◌, ◌<◌, ◌^◌, ◌/◌, ◌⊎◌, All, None, Some, OnOk, IfErr, IfOk};
+ghost use Rattle.std.specs.Prelude.{length, map};
 ghost use Rattle.km_names.specs.First.{first};
 ghost use Rattle.model_loader.specs.declared.entry.Entry.{Entry};
 ghost use Rattle.model_loader.specs.declared.prepare.Prepared.{Prepared};
@@ -9,7 +10,8 @@ ghost use Rattle.model_loader.specs.Gap.{gap};
 ghost use Rattle.model_loader.specs.Runs.{IsPaged, run_of};
 ghost use Rattle.model_loader.specs.Standing.{Keeps, export_pair, named_pair};
 ghost use Rattle.model_loader.specs.Parts.{HasParts, entry_by};
-ghost use Rattle.model_loader.specs.Step.{entry_at, module_base, module_size, named_pages, overflow_fault, placement_tests};
+ghost use Rattle.model_loader.specs.Step.{entry_at, module_base, module_size, named_pages};
+ghost use Rattle.model_loader.specs.Step.{overflow_fault, placement_tests};
 
 use crate::entry::{Entry, LoadedModule};
 use crate::gap::lowest_gap;
@@ -67,8 +69,12 @@ fn entry_of(
     base: u64,
 ) -> Result<Entry, LoadFault>
     requires { module_size «module».now < 2 ^ 63 }
-    ensures entry { IfOk result (λ e. (machine : Machine) → Keeps table.now machine → e ≡ entry_at machine «module».now base) }
-    ensures fits { OnOk result ((machine : Machine) → Keeps table.now machine → overflow_fault machine «module».now base ≡ None) }
+    ensures entry { IfOk result
+        (λ e. (machine : Machine) → Keeps table.now machine
+        → e ≡ entry_at machine «module».now base) }
+    ensures fits { OnOk result
+        ((machine : Machine) → Keeps table.now machine
+        → overflow_fault machine «module».now base ≡ None) }
     ensures fault { IfErr result (λ e. (machine : Machine) → Keeps table.now machine
         → (e ≡ LoadFault.Memory) ⊎ (overflow_fault machine «module».now base ≡ Some e)) }
 {
@@ -105,12 +111,17 @@ pub(crate) fn prepare(
     module: &Module,
 ) -> Result<Prepared, LoadFault>
     requires { All (λ (e : Entry). IsPaged (run_of e)) entries.now }
-    ensures entry { IfOk result (λ p. (machine : Machine) → HasParts machine region.now entries.now table.now
+    ensures entry { IfOk result (λ p. (machine : Machine)
+        → HasParts machine region.now entries.now table.now
         → p.entry ≡ entry_at machine «module».now (module_base machine «module».now)) }
-    ensures named { IfOk result (λ p. map named_pair p.named.items ≡ map (export_pair (Some p.entry.loaded.name)) p.entry.exports) }
-    ensures passed { OnOk result ((machine : Machine) → HasParts machine region.now entries.now table.now
+    ensures named { IfOk result
+        (λ p. map named_pair p.named.items
+        ≡ map (export_pair (Some p.entry.loaded.name)) p.entry.exports) }
+    ensures passed { OnOk result ((machine : Machine)
+        → HasParts machine region.now entries.now table.now
         → first (placement_tests machine «module».now) ≡ None) }
-    ensures fault { IfErr result (λ e. (machine : Machine) → HasParts machine region.now entries.now table.now
+    ensures fault { IfErr result (λ e. (machine : Machine)
+        → HasParts machine region.now entries.now table.now
         → (e ≡ LoadFault.Memory) ⊎ (first (placement_tests machine «module».now) ≡ Some e)) }
 {
     let size = image_size(&module.object);

@@ -1,6 +1,7 @@
 // The table of exported names.
 
-ghost use Rattle.std.specs.Prelude.{◌≡◌, ◌≤◌, ◌<◌, ◌+◌, ℕ, List, None, Some, OnOk, is_some, option_copied, length, if◌then◌else◌};
+ghost use Rattle.std.specs.Prelude.{◌≡◌, ◌≤◌, ◌<◌, ◌+◌, ℕ, List, None, Some, OnOk, is_some};
+ghost use Rattle.std.specs.Prelude.{option_copied, length, if◌then◌else◌};
 ghost use Rattle.std.specs.HashMap.{spare};
 ghost use Rattle.std.specs.Option.{option_or};
 ghost use Rattle.std.specs.Str.{bytes_eq};
@@ -68,7 +69,8 @@ impl ExportTable {
     pub(crate) fn enter(&mut self, named: Named)
         requires { 0 < spare self.old.standings }
         ensures at { (x : List ℕ) → standing_of self.new x
-            ≡ option_or (standing_of self.old x) (if bytes_eq named.name.items x then Some named.standing else None) }
+            ≡ option_or (standing_of self.old x)
+            (if bytes_eq named.name.items x then Some named.standing else None) }
         ensures room { spare self.old.standings ≤ spare self.new.standings + 1 }
     {
         let Named { name, standing } = named;
@@ -80,7 +82,9 @@ impl ExportTable {
     /// Inserts names, each unless it is present. Their memory is reserved, so this takes none.
     pub(crate) fn enter_all(&mut self, named: VecDeque<Named>)
         requires { length named.items ≤ spare self.old.standings }
-        ensures { (x : List ℕ) → standing_of self.new x ≡ option_or (standing_of self.old x) (standing_in x named.items) }
+        ensures { (x : List ℕ)
+            → standing_of self.new x
+            ≡ option_or (standing_of self.old x) (standing_in x named.items) }
     {
         let mut rest = named;
         while let Some(next) = rest.pop_front() {
@@ -90,7 +94,9 @@ impl ExportTable {
 
     /// Removes a name, if present. It takes no memory.
     pub(crate) fn forget(&mut self, name: &[u8])
-        ensures { (x : List ℕ) → standing_of self.new x ≡ (if bytes_eq name.now x then None else standing_of self.old x) }
+        ensures { (x : List ℕ)
+            → standing_of self.new x
+            ≡ (if bytes_eq name.now x then None else standing_of self.old x) }
     {
         let _ = self.standings.swap_remove(name);
     }

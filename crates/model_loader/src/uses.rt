@@ -4,7 +4,8 @@
 ghost use Rattle.std.specs.Prelude.{◌≡◌, ◌&&◌, ℕ, IfOk, map, nat_eq, nat_lt};
 ghost use Rattle.std.specs.List.{list_any};
 ghost use Rattle.name_table.specs.NameTable.{IsTableOf};
-ghost use Rattle.model_loader.specs.Uses.{AreBoundPlaces, bound_place, is_bound_at, is_met_named, is_owner, met_place, owner_place, stated_names};
+ghost use Rattle.model_loader.specs.Uses.{AreBoundPlaces, bound_place, is_bound_at, is_met_named};
+ghost use Rattle.model_loader.specs.Uses.{is_owner, met_place, owner_place, stated_names};
 
 use crate::entry::{BoundNeed, Entry};
 use crate::standing::{ExportTable, Standing};
@@ -46,7 +47,10 @@ fn uses_named(table: &ExportTable, user: &Entry, name: &[u8]) -> bool
 
 /// Returns whether the module at the place `k` binds to the one at the place `j`.
 pub(crate) fn binds_to(table: &ExportTable, user: &Entry, k: usize, other: &Entry, j: usize) -> bool
-    ensures { result ≡ (nat_lt j k && list_any (is_met_named table.now user.now.free other.now.loaded.name) user.now.needs) }
+    ensures { result
+        ≡ (nat_lt j k
+        && list_any (is_met_named table.now user.now.free other.now.loaded.name)
+        user.now.needs) }
 {
     j < k && uses_named(table, user, other.loaded.name.as_bytes())
 }
@@ -97,7 +101,10 @@ fn bound_places(
     entry: &Entry,
     k: usize,
 ) -> Result<Vec<usize>, AllocError>
-    ensures { IfOk result (λ v. (j : ℕ) → list_any (nat_eq j) v.items ≡ list_any (is_bound_at table.now places.now entry.now.free k j) entry.now.needs) }
+    ensures { IfOk result
+        (λ v. (j : ℕ)
+        → list_any (nat_eq j) v.items
+        ≡ list_any (is_bound_at table.now places.now entry.now.free k j) entry.now.needs) }
 {
     let mut bound = Vec::new(alloc);
     for need in entry.needs.as_slice() {
@@ -132,7 +139,8 @@ pub(crate) fn all_bound_places(
     places: &NameTable,
     entries: &[Entry],
 ) -> Result<Vec<Vec<usize>>, AllocError>
-    ensures { IfOk result (λ v. AreBoundPlaces table.now places.now entries.now (map (λ u. u.items) v.items)) }
+    ensures { IfOk result
+        (λ v. AreBoundPlaces table.now places.now entries.now (map (λ u. u.items) v.items)) }
 {
     let mut all = Vec::with_capacity(alloc, entries.len())?;
     for k in 0..entries.len() {

@@ -1,5 +1,6 @@
 -- Modules removed from a machine by name. The kernel's delete_module, kernel/module/main.c.
-use Rattle.std.specs.Prelude.{◌≡◌, ◌<◌, ℕ, Bool, false, List, [], ◌∷◌, length, find, map, slice_get, Option, Result, Ok, Err}
+use Rattle.std.specs.Prelude.{◌≡◌, ◌<◌, ℕ, Bool, false, List, [], ◌∷◌, length, find, map, slice_get}
+use Rattle.std.specs.Prelude.{Option, Result, Ok, Err}
 use Rattle.std.specs.List.{IsDistinct}
 use Rattle.std.specs.Option.{option_map_or}
 use Rattle.std.specs.Str.{bytes_eq}
@@ -11,7 +12,8 @@ use Rattle.model_unload.specs.declared.UnloadFault.TheVariants.{NotLoaded, InUse
 
 -- Whether the entry k has this name.
 abbrev pub is_named_at : Machine → List ℕ → ℕ → Bool
-is_named_at machine name k = option_map_or (λ e. bytes_eq e.loaded.name name) (slice_get machine.entries k) false
+is_named_at machine name k =
+    option_map_or (λ e. bytes_eq e.loaded.name name) (slice_get machine.entries k) false
 
 -- The place of the module of this name.
 abbrev pub place_of : Machine → List ℕ → Option ℕ
@@ -24,13 +26,15 @@ first_user machine j = find (λ k. binds machine k j) (places machine)
 -- The machine without the module of a name, or the refusal: it isn't loaded, or an entry binds to
 -- it.
 abbrev pub unloaded_at : Machine → ℕ → Result Machine UnloadFault
-unloaded_at machine j = option_map_or (λ k. Err (InUse k)) (first_user machine j) (Ok (without machine j))
+unloaded_at machine j =
+    option_map_or (λ k. Err (InUse k)) (first_user machine j) (Ok (without machine j))
 
 abbrev pub unloaded : Machine → List ℕ → Result Machine UnloadFault
 unloaded machine name = option_map_or (unloaded_at machine) (place_of machine name) (Err NotLoaded)
 
 -- The next result, unless a module was refused.
-abbrev pub unless_refused : (Machine → Result Machine UnloadFault) → Result Machine UnloadFault → Result Machine UnloadFault
+abbrev pub unless_refused : (Machine → Result Machine UnloadFault) → Result Machine UnloadFault
+    → Result Machine UnloadFault
 unless_refused next (Ok machine) = next machine
 unless_refused next (Err fault) = Err fault
 
@@ -38,7 +42,8 @@ unless_refused next (Err fault) = Err fault
 -- refusal.
 abbrev pub unload_all : Machine → List (List ℕ) → Result Machine UnloadFault
 unload_all machine [] = Ok machine
-unload_all machine (name ∷ names) = unless_refused (λ next. unload_all next names) (unloaded machine name)
+unload_all machine (name ∷ names) =
+    unless_refused (λ next. unload_all next names) (unloaded machine name)
 
 -- Places below a number, each below the ones before it.
 abbrev pub AreFallingFrom : ℕ → List ℕ → Type 0
@@ -48,5 +53,7 @@ AreFallingFrom n (k ∷ ks) = (k < n) × AreFallingFrom k ks
 -- Entries, the younger ones first, are removed by their names if none is used at its turn.
 abbrev pub UnusedAreUnloaded : Type 0
 UnusedAreUnloaded =
-    (machine : Machine) (ks : List ℕ) → IsDistinct bytes_eq (entry_names machine) → AreFallingFrom (length machine.entries) ks
-    → AreUnused machine ks → unload_all machine (map (name_at machine) ks) ≡ Ok (without_all machine ks)
+    (machine : Machine) (ks : List ℕ) → IsDistinct bytes_eq (entry_names machine)
+    → AreFallingFrom (length machine.entries) ks
+    → AreUnused machine ks
+    → unload_all machine (map (name_at machine) ks) ≡ Ok (without_all machine ks)

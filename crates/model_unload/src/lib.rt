@@ -4,7 +4,8 @@
 //! machine without one module.
 #![tactic(auto)]
 
-ghost use Rattle.std.specs.Prelude.{◌≡◌, ◌<◌, ℕ, List, Ok, Err, Some, OnOk, OnErr, IfErr, length, remove};
+ghost use Rattle.std.specs.Prelude.{◌≡◌, ◌<◌, ℕ, List, Ok, Err, Some, OnOk, OnErr, IfErr, length};
+ghost use Rattle.std.specs.Prelude.{remove};
 ghost use Rattle.module_facts.specs.declared.module.Module.{Module};
 ghost use Rattle.model_loader.specs.Sound.{IsSound};
 ghost use Rattle.model_unload.specs.Below.{IsUnusedBelow};
@@ -58,7 +59,8 @@ fn first_user(machine: &Machine, j: usize) -> Option<usize>
 /// the oldest.
 pub fn unload(machine: &mut Machine, name: &[u8]) -> Result<(), UnloadFault>
     ensures done { OnOk result (unloaded machine.old name.now ≡ Ok machine.new) }
-    ensures sound { OnOk result ((modules : List Module) (j : ℕ) → place_of machine.old name.now ≡ Some j
+    ensures sound { OnOk result ((modules : List Module) (j : ℕ)
+        → place_of machine.old name.now ≡ Some j
         → IsSound machine.old modules → IsSound machine.new (remove modules j)) }
     ensures fault { IfErr result (λ e. unloaded machine.old name.now ≡ Err e) }
     ensures unchanged { OnErr result (machine.new ≡ machine.old) }

@@ -13,7 +13,8 @@ is_text (byte ∷ bytes) = true
 -- The field of a piece: its key up to the first `=`, and the value after it. A piece without `=` is
 -- a key.
 unfoldable pub field_of : List ℕ → Field
-field_of piece = record { key = before_first (λ b. b == 61) piece; value = after_first (λ b. b == 61) piece }
+field_of piece =
+    record { key = before_first (λ b. b == 61) piece; value = after_first (λ b. b == 61) piece }
 
 -- The fields of a section's bytes: its pieces between NULs that aren't empty, in order.
 unfoldable pub fields_of : List ℕ → List Field
@@ -21,4 +22,5 @@ fields_of bytes = map field_of (filter is_text (slice_split (λ b. b == 0) bytes
 
 -- The values of the fields with this key, in order.
 unfoldable pub values_of_key : List ℕ → List Field → List (List ℕ)
-values_of_key key fields = map (λ field. field.value) (filter (λ field. bytes_eq field.key key) fields)
+values_of_key key fields =
+    map (λ field. field.value) (filter (λ field. bytes_eq field.key key) fields)

@@ -1,4 +1,5 @@
-ghost use Rattle.std.specs.Prelude.{◌≡◌, ◌≤◌, ◌<◌, ◌↔◌, ◌==◌, [], ◌∷◌, ◌++◌, length, map, filter, IsNone, OnOk, OnErr, IfOk, slice_get, option_copied};
+ghost use Rattle.std.specs.Prelude.{◌≡◌, ◌≤◌, ◌<◌, ◌↔◌, ◌==◌, [], ◌∷◌, ◌++◌, length, map, filter};
+ghost use Rattle.std.specs.Prelude.{IsNone, OnOk, OnErr, IfOk, slice_get, option_copied};
 ghost use Rattle.std.specs.Option.{option_to_list};
 ghost use Rattle.modinfo_fields.specs.Fields.{fields_of, field_of, is_text, values_of_key};
 

@@ -1,5 +1,6 @@
 -- What modinfo(8) prints of a module.
-use Rattle.std.specs.Prelude.{ℕ, ◌-◌, Bool, not, List, [], ◌∷◌, ◌++◌, Option, Some, None, codes, length, map, filter, if◌then◌else◌}
+use Rattle.std.specs.Prelude.{ℕ, ◌-◌, Bool, not, List, [], ◌∷◌, ◌++◌, Option, Some, None, codes}
+use Rattle.std.specs.Prelude.{length, map, filter, if◌then◌else◌}
 use Rattle.std.specs.List.{flat_map, repeat}
 use Rattle.std.specs.Str.{bytes_eq}
 use Rattle.modinfo_fields.specs.declared.piece.Field.{Field}
@@ -17,7 +18,8 @@ labelled key value = key ++ codes ":" ++ repeat (15 - length key) (codes " ") ++
 unfoldable pub all_lines : List ℕ → List Field → List (List ℕ)
 all_lines path fields =
     labelled (codes "filename") path ∷ []
-    ++ map (λ (field : Field). labelled field.key field.value) (filter (λ field. not (is_parameter field)) fields)
+    ++ map (λ (field : Field). labelled field.key field.value)
+    (filter (λ field. not (is_parameter field)) fields)
     ++ map (labelled (codes "parm")) (parameter_values fields)
 
 -- The values under a key: `filename` is the path, `parm` are the parameters.
@@ -41,4 +43,5 @@ line_end zero = if zero then 0 else 10
 
 -- The text that is shown of a module at a path, with these fields.
 unfoldable pub shown_text : List ℕ → List Field → ShowOptions → List ℕ
-shown_text path fields options = ended (line_end options.zero) (lines_asked options.field path fields)
+shown_text path fields options =
+    ended (line_end options.zero) (lines_asked options.field path fields)

@@ -9,4 +9,5 @@ use Rattle.name_table.specs.declared.key.NameKey.{NameKey}
 module _ {S : Type 0} where
   -- What a table has under a name.
   abbrev pub told_in : IndexMap NameKey (Bor (List ℕ)) S → List ℕ → Option (List ℕ)
-  told_in table name = option_map (λ told. told.now) (get_by (λ key. bytes_eq name key.bytes.now) table)
+  told_in table name
+      = option_map (λ told. told.now) (get_by (λ key. bytes_eq name key.bytes.now) table)

@@ -1,7 +1,9 @@
-ghost use Rattle.std.specs.Prelude.{◌≡◌, ℕ, List, IfOk, OnOk, map, option_map, Some, None, if◌then◌else◌};
+ghost use Rattle.std.specs.Prelude.{◌≡◌, ℕ, List, IfOk, OnOk, map, option_map, Some, None};
+ghost use Rattle.std.specs.Prelude.{if◌then◌else◌};
 ghost use Rattle.std.specs.Option.{option_or};
 ghost use Rattle.std.specs.Str.{bytes_eq};
-ghost use Rattle.modinfo_tool.specs.Parameters.{is_parameter, parameter_names, first_told, described, parameter_values};
+ghost use Rattle.modinfo_tool.specs.Parameters.{is_parameter, parameter_names, first_told};
+ghost use Rattle.modinfo_tool.specs.Parameters.{described, parameter_values};
 ghost use Rattle.modinfo_tool.specs.Tables.{told_in};
 
 use indexmap::IndexMap;
@@ -42,7 +44,8 @@ fn described_by(
     types: &[Blob],
 ) -> Result<Texts, AllocError>
     ensures { IfOk result (λ values. values
-        ≡ map (λ name. described name (first_told parms.now name) (first_told types.now name)) names.now) }
+        ≡ map (λ name. described name (first_told parms.now name) (first_told types.now name))
+        names.now) }
 {
     let texts = first_told(alloc, parms)?;
     let kinds = first_told(alloc, types)?;
@@ -75,7 +78,9 @@ fn describe_by(
     texts: &Told<'_>,
     kinds: &Told<'_>,
 ) -> Result<Blob, AllocError>
-    ensures { IfOk result (λ value. value ≡ described name.now (told_in texts.now name.now) (told_in kinds.now name.now)) }
+    ensures { IfOk result
+        (λ value. value
+        ≡ described name.now (told_in texts.now name.now) (told_in kinds.now name.now)) }
 {
     let key = NameKey::new(name);
     let text = texts.get(&key).copied();
@@ -91,7 +96,8 @@ fn describe(
     kind: Option<&[u8]>,
 ) -> Result<Blob, AllocError>
     ensures { IfOk result (λ value. value
-        ≡ described name.now (option_map (λ t. t.now) text.entry) (option_map (λ t. t.now) kind.entry)) }
+        ≡ described name.now (option_map (λ t. t.now) text.entry)
+        (option_map (λ t. t.now) kind.entry)) }
 {
     let mut value = Blob::from_slice(alloc, name)?;
     value.push(b':')?;
@@ -111,7 +117,8 @@ fn describe(
 
 // Returns for each parameter its description by the first of the values that describes it.
 fn first_told<'a>(alloc: Global, values: &'a [Blob]) -> Result<Told<'a>, AllocError>
-    ensures { IfOk result (λ told. (name : List ℕ) → told_in told name ≡ first_told values.now name) }
+    ensures { IfOk result
+        (λ told. (name : List ℕ) → told_in told name ≡ first_told values.now name) }
 {
     let mut told = IndexMap::with_hasher(alloc, BuildHasherDefault::new());
     for value in values {
@@ -124,7 +131,8 @@ fn first_told<'a>(alloc: Global, values: &'a [Blob]) -> Result<Told<'a>, AllocEr
 // Inserts a description under a name, unless the name has one.
 fn keep_first<'a>(told: &mut Told<'a>, name: &'a [u8], rest: &'a [u8]) -> Result<(), AllocError>
     ensures ok { OnOk result ((other : List ℕ) → told_in told.new other
-        ≡ option_or (told_in told.old other) (if bytes_eq name.now other then Some rest.now else None)) }
+        ≡ option_or (told_in told.old other)
+        (if bytes_eq name.now other then Some rest.now else None)) }
 {
     let key = NameKey::new(name);
     if told.get(&key).is_none() {

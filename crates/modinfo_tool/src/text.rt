@@ -3,7 +3,8 @@ ghost use Rattle.std.specs.List.{repeat};
 ghost use Rattle.modinfo_fields.specs.declared.piece.Field.{Field};
 ghost use Rattle.modinfo_fields.specs.Fields.{fields_of, values_of_key};
 ghost use Rattle.modinfo_tool.specs.Parameters.{is_parameter};
-ghost use Rattle.modinfo_tool.specs.Show.{labelled, all_lines, values_under, ended, line_end, shown_text};
+ghost use Rattle.modinfo_tool.specs.Show.{labelled, all_lines, values_under, ended, line_end};
+ghost use Rattle.modinfo_tool.specs.Show.{shown_text};
 
 use crate::parameters::{is_parameter, parameter_values};
 use km_names::{Blob, Name, PathText, Texts, split_at_byte};
@@ -55,7 +56,8 @@ pub fn show_values(
     key: &[u8],
     zero: bool,
 ) -> Result<Blob, AllocError>
-    ensures { IfOk result (λ text. text ≡ ended (line_end zero) (values_of_key key.now (fields_of section.now))) }
+    ensures { IfOk result
+        (λ text. text ≡ ended (line_end zero) (values_of_key key.now (fields_of section.now))) }
 {
     let end = line_end(zero);
     let mut text = Blob::new(alloc);
@@ -100,7 +102,8 @@ fn all_text(alloc: Global, path: &PathText, fields: &FieldList, end: u8) -> Resu
 // Puts a line for each field at the end, except those that describe parameters.
 fn push_fields(text: &mut Blob, fields: &FieldList, end: u8) -> Result<(), AllocError>
     ensures ok { OnOk result (text.new ≡ text.old ++ ended end
-        (map (λ (field : Field). labelled field.key field.value) (filter (λ field. not (is_parameter field)) fields.now))) }
+        (map (λ (field : Field). labelled field.key field.value)
+        (filter (λ field. not (is_parameter field)) fields.now))) }
 {
     for i in 0..fields.len() {
         if let Some(field) = fields.get(i) {
@@ -114,7 +117,8 @@ fn push_fields(text: &mut Blob, fields: &FieldList, end: u8) -> Result<(), Alloc
 
 // Puts a line for each parameter at the end.
 fn push_parameters(text: &mut Blob, values: &[Blob], end: u8) -> Result<(), AllocError>
-    ensures ok { OnOk result (text.new ≡ text.old ++ ended end (map (labelled (codes "parm")) values.now)) }
+    ensures ok { OnOk result
+        (text.new ≡ text.old ++ ended end (map (labelled (codes "parm")) values.now)) }
 {
     for value in values {
         push_labelled(text, b"parm", value.as_bytes(), end)?;

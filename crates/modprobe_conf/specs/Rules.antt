@@ -1,5 +1,6 @@
 -- The rules of modprobe.d(5): what each line of its files states.
-use Rattle.std.specs.Prelude.{ℕ, List, [], ◌∷◌, ◌++◌, Bool, not, ◌||◌, if◌then◌else◌, codes, Option, Some, None, Result, map}
+use Rattle.std.specs.Prelude.{ℕ, List, [], ◌∷◌, ◌++◌, Bool, not, ◌||◌, if◌then◌else◌, codes, Option}
+use Rattle.std.specs.Prelude.{Some, None, Result, map}
 use Rattle.std.specs.Option.{option_map, option_and_then}
 use Rattle.std.specs.List.{take_while}
 use Rattle.std.specs.Str.{bytes_eq}
@@ -12,7 +13,8 @@ use Rattle.modprobe_conf.specs.declared.rule.Command.{Command}
 use Rattle.modprobe_conf.specs.declared.rule.Command.TheVariants as commands
 use Rattle.modprobe_conf.specs.declared.rule.Named.{Named}
 use Rattle.modprobe_conf.specs.declared.rule.Rule.{Rule}
-use Rattle.modprobe_conf.specs.declared.rule.Rule.TheVariants.{Alias, Blacklist, Options, Install, Remove, Softdep}
+use Rattle.modprobe_conf.specs.declared.rule.Rule.TheVariants.{Alias, Blacklist, Options, Install}
+use Rattle.modprobe_conf.specs.declared.rule.Rule.TheVariants.{Remove, Softdep}
 
 -- A value, unless the text is empty.
 abbrev pub unless_empty : {X : Type 0} → List ℕ → Option X → Option X
@@ -23,16 +25,19 @@ unless_empty (b ∷ bs) x = x
 unfoldable pub alias_rule : List ℕ → Option Rule
 alias_rule rest =
     let name = first_word (rest_after_word rest) in
-    unless_empty name (option_map (λ pattern. Alias pattern (underscored name)) (normal_alias (first_word rest)))
+    unless_empty name
+    (option_map (λ pattern. Alias pattern (underscored name)) (normal_alias (first_word rest)))
 
 -- `blacklist NAME`: one word.
 unfoldable pub blacklist_rule : List ℕ → Option Rule
-blacklist_rule rest = unless_empty (first_word rest) (Some (Blacklist (underscored (first_word rest))))
+blacklist_rule rest =
+    unless_empty (first_word rest) (Some (Blacklist (underscored (first_word rest))))
 
 -- A name, and a rest that isn't empty and is kept unchanged.
 unfoldable pub name_with_rest : List ℕ → Option Named
 name_with_rest rest =
-    unless_empty (rest_after_word rest) (Some (record { name = underscored (first_word rest); text = rest_after_word rest }))
+    unless_empty (rest_after_word rest)
+    (Some (record { name = underscored (first_word rest); text = rest_after_word rest }))
 
 -- Whether a word in a line of soft dependencies is one of the markers `pre:` and `post:`.
 abbrev pub is_marker : List ℕ → Bool
@@ -42,15 +47,20 @@ is_marker word = bytes_eq word (codes "pre:") || bytes_eq word (codes "post:")
 abbrev pub words_after : List ℕ → List (List ℕ) → List (List ℕ)
 words_after marker [] = []
 words_after marker (word ∷ words) =
-    if bytes_eq word marker then take_while (λ w. not (is_marker w)) words ++ words_after marker words else words_after marker words
+    if bytes_eq word marker
+    then take_while (λ w. not (is_marker w)) words ++ words_after marker words
+    else words_after marker words
 
 -- `softdep NAME WORDS`: at least one word after the name. The names are those after `pre:` and
 -- those after `post:`.
 unfoldable pub softdep_rule : List ℕ → Option Rule
 softdep_rule rest =
     let list = rest_after_word rest in
-    let names : List ℕ → List (List ℕ) = λ marker. map underscored (words_after marker (words list)) in
-    unless_empty list (Some (Softdep (underscored (first_word rest)) (names (codes "pre:")) (names (codes "post:"))))
+    let names : List ℕ → List (List ℕ)
+    = λ marker. map underscored (words_after marker (words list)) in
+    unless_empty list
+    (Some (Softdep (underscored (first_word rest)) (names (codes "pre:"))
+    (names (codes "post:"))))
 
 -- The command of this name, if it is one.
 unfoldable pub command_of : List ℕ → Option Command
@@ -68,14 +78,18 @@ command_of word =
 abbrev pub rule_of_command : Command → List ℕ → Option Rule
 rule_of_command commands.Alias rest = alias_rule rest
 rule_of_command commands.Blacklist rest = blacklist_rule rest
-rule_of_command commands.Options rest = option_map (λ n. Options n.name n.text) (name_with_rest rest)
-rule_of_command commands.Install rest = option_map (λ n. Install n.name n.text) (name_with_rest rest)
+rule_of_command commands.Options rest =
+    option_map (λ n. Options n.name n.text) (name_with_rest rest)
+rule_of_command commands.Install rest =
+    option_map (λ n. Install n.name n.text) (name_with_rest rest)
 rule_of_command commands.Remove rest = option_map (λ n. Remove n.name n.text) (name_with_rest rest)
 rule_of_command commands.Softdep rest = softdep_rule rest
 
 -- What a line states, if it is understood: the rule of its command.
 unfoldable pub rule_of : List ℕ → Option Rule
-rule_of text = option_and_then (λ command. rule_of_command command (rest_after_word text)) (command_of (first_word text))
+rule_of text =
+    option_and_then (λ command. rule_of_command command (rest_after_word text))
+    (command_of (first_word text))
 
 -- The rules of the files, one for each line, in order, or the place of the first line that isn't
 -- understood.

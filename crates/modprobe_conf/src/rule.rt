@@ -1,7 +1,9 @@
 ghost use Rattle.std.specs.Prelude.{◌≡◌, ◌++◌, ◌∷◌, [], IfOk, IsTrue, OnOk, map};
 ghost use Rattle.km_names.specs.Path.{underscored};
 ghost use Rattle.km_names.specs.Space.{nonempty, words};
-ghost use Rattle.modprobe_conf.specs.Rules.{command_of, rule_of_command, alias_rule, blacklist_rule, name_with_rest, softdep_rule, is_marker, words_after};
+ghost use Rattle.modprobe_conf.specs.Rules.{command_of, rule_of_command, alias_rule};
+ghost use Rattle.modprobe_conf.specs.Rules.{blacklist_rule, name_with_rest, softdep_rule};
+ghost use Rattle.modprobe_conf.specs.Rules.{is_marker, words_after};
 
 use km_names::{Alias, Blob, List, Name, Names, Statement, normal_alias, split_word, underscored};
 use std::alloc::{AllocError, Global};
@@ -198,7 +200,8 @@ fn is_marker(word: &[u8]) -> bool
 /// kind.
 fn names_after(alloc: Global, text: &[u8], marker: &[u8]) -> Result<Names, AllocError>
     requires { IsTrue (is_marker marker.now) }
-    ensures { IfOk result (λ names. names ≡ map underscored (words_after marker.now (words text.now))) }
+    ensures { IfOk result
+        (λ names. names ≡ map underscored (words_after marker.now (words text.now))) }
 {
     let mut names = Names::new(alloc);
     let mut belongs = false;

@@ -1,23 +1,31 @@
 -- Lists, an item more at a time.
-use Rattle.std.proofs.Common.{◌≡◌, ℕ, zero, suc, ◌+◌, ◌<◌, Bool, true, false, ◌||◌, List, [], ◌∷◌, ◌++◌, cond, length, take, get_or, map, Option, Some, None, refl, sym, ap, ◌∙◌, add-zero, zero-add, append-nil, arith}
+use Rattle.std.proofs.Common.{◌≡◌, ℕ, zero, suc, ◌+◌, ◌<◌, Bool, true, false, ◌||◌, List, [], ◌∷◌}
+use Rattle.std.proofs.Common.{◌++◌, cond, length, take, get_or, map, Option, Some, None, refl, sym}
+use Rattle.std.proofs.Common.{ap, ◌∙◌, add-zero, zero-add, append-nil, arith}
 use Rattle.std.proofs.lemmas.List.{length-take, map-append, take_more}
 use Rattle.std.proofs.lemmas.List.Elements.{filter-append, filter_map-append}
 use Rattle.std.proofs.lemmas.Option.{get_or_from_slice_get, slice_get_within}
-use Rattle.std.specs.List.{cons_option, enumerate_from, filter, filter_map, list_any, range_with_len, slice_get}
+use Rattle.std.specs.List.{cons_option, enumerate_from, filter, filter_map, list_any}
+use Rattle.std.specs.List.{range_with_len, slice_get}
 
 -- the front with the item at i is one item longer
-pub take-item : {X : Type 0} (xs : List X) (i : ℕ) (x : X) → slice_get xs i ≡ Some x → take (i + 1) xs ≡ take i xs ++ x ∷ []
+pub take-item : {X : Type 0} (xs : List X) (i : ℕ) (x : X) → slice_get xs i ≡ Some x
+    → take (i + 1) xs ≡ take i xs ++ x ∷ []
 take-item xs i x is =
     let within : i < length xs = slice_get_within xs i x is in
     let here : get_or xs i x ≡ x = get_or_from_slice_get xs i x x is in
     take_more xs i x within ∙ ap (λ y. take i xs ++ y ∷ []) here
 
 -- what a function makes of the front with the item at i
-pub map-item : {X Y : Type 0} (f : X → Y) (xs : List X) (i : ℕ) (x : X) → slice_get xs i ≡ Some x → map f (take (i + 1) xs) ≡ map f (take i xs) ++ f x ∷ []
+pub map-item : {X Y : Type 0} (f : X → Y) (xs : List X) (i : ℕ) (x : X) → slice_get xs i ≡ Some x
+    → map f (take (i + 1) xs) ≡ map f (take i xs) ++ f x ∷ []
 map-item f xs i x is = ap (map f) (take-item xs i x is) ∙ map-append f (take i xs) (x ∷ [])
 
 -- the item at i gives y
-pub filter_map-given : {X Y Z : Type 0} (f : X → Option Y) (g : Y → Z) (xs : List X) (i : ℕ) (x : X) (y : Y) → slice_get xs i ≡ Some x → Some y ≡ f x → map g (filter_map f (take (i + 1) xs)) ≡ map g (filter_map f (take i xs)) ++ g y ∷ []
+pub filter_map-given : {X Y Z : Type 0} (f : X → Option Y) (g : Y → Z) (xs : List X) (i : ℕ) (x : X)
+    (y : Y)
+    → slice_get xs i ≡ Some x → Some y ≡ f x
+    → map g (filter_map f (take (i + 1) xs)) ≡ map g (filter_map f (take i xs)) ++ g y ∷ []
 filter_map-given f g xs i x y is gives =
     ap (λ ys. map g (filter_map f ys)) (take-item xs i x is)
     ∙ ap (map g) (filter_map-append f (take i xs) (x ∷ []))
@@ -25,7 +33,10 @@ filter_map-given f g xs i x y is gives =
     ∙ map-append g (filter_map f (take i xs)) (y ∷ [])
 
 -- the item at i gives nothing
-pub filter_map-silent : {X Y Z : Type 0} (f : X → Option Y) (g : Y → Z) (xs : List X) (i : ℕ) (x : X) → slice_get xs i ≡ Some x → None ≡ f x → map g (filter_map f (take (i + 1) xs)) ≡ map g (filter_map f (take i xs))
+pub filter_map-silent : {X Y Z : Type 0} (f : X → Option Y) (g : Y → Z) (xs : List X) (i : ℕ)
+    (x : X)
+    → slice_get xs i ≡ Some x → None ≡ f x
+    → map g (filter_map f (take (i + 1) xs)) ≡ map g (filter_map f (take i xs))
 filter_map-silent f g xs i x is gives =
     ap (λ ys. map g (filter_map f ys)) (take-item xs i x is)
     ∙ ap (map g) (filter_map-append f (take i xs) (x ∷ []))
@@ -33,13 +44,16 @@ filter_map-silent f g xs i x is gives =
     ∙ ap (map g) (append-nil (filter_map f (take i xs)))
 
 -- the numbered list with one more item
-pub enumerate_from-push : {X : Type 0} (n : ℕ) (xs : List X) (x : X) → enumerate_from n (xs ++ x ∷ []) ≡ enumerate_from n xs ++ (n + length xs, x) ∷ []
+pub enumerate_from-push : {X : Type 0} (n : ℕ) (xs : List X) (x : X)
+    → enumerate_from n (xs ++ x ∷ []) ≡ enumerate_from n xs ++ (n + length xs, x) ∷ []
 enumerate_from-push n [] x = ap (λ k. (k, x) ∷ []) (sym (add-zero n))
 enumerate_from-push n (y ∷ ys) x =
     let same : n + 1 + length ys ≡ n + suc (length ys) = omega arith in
-    ap (λ l. (n, y) ∷ l) (enumerate_from-push (n + 1) ys x ∙ ap (λ k. enumerate_from (n + 1) ys ++ (k, x) ∷ []) same)
+    ap (λ l. (n, y) ∷ l)
+    (enumerate_from-push (n + 1) ys x ∙ ap (λ k. enumerate_from (n + 1) ys ++ (k, x) ∷ []) same)
 
-enumerate_from-take : {X : Type 0} (xs : List X) (i : ℕ) (x : X) → slice_get xs i ≡ Some x → enumerate_from 0 (take (i + 1) xs) ≡ enumerate_from 0 (take i xs) ++ (i, x) ∷ []
+enumerate_from-take : {X : Type 0} (xs : List X) (i : ℕ) (x : X) → slice_get xs i ≡ Some x
+    → enumerate_from 0 (take (i + 1) xs) ≡ enumerate_from 0 (take i xs) ++ (i, x) ∷ []
 enumerate_from-take xs i x is =
     let within : i < length xs = slice_get_within xs i x is in
     let long : 0 + length (take i xs) ≡ i = omega (arith, length-take i xs) in
@@ -48,7 +62,11 @@ enumerate_from-take xs i x is =
     ∙ ap (λ k. enumerate_from 0 (take i xs) ++ (k, x) ∷ []) long
 
 -- the numbered item at i passes
-pub numbered-passed : {X Z : Type 0} (p : ℕ × X → Bool) (g : ℕ × X → Z) (xs : List X) (i : ℕ) (x : X) → slice_get xs i ≡ Some x → p (i, x) ≡ true → map g (filter p (enumerate_from 0 (take (i + 1) xs))) ≡ map g (filter p (enumerate_from 0 (take i xs))) ++ g (i, x) ∷ []
+pub numbered-passed : {X Z : Type 0} (p : ℕ × X → Bool) (g : ℕ × X → Z) (xs : List X) (i : ℕ)
+    (x : X)
+    → slice_get xs i ≡ Some x → p (i, x) ≡ true
+    → map g (filter p (enumerate_from 0 (take (i + 1) xs)))
+    ≡ map g (filter p (enumerate_from 0 (take i xs))) ++ g (i, x) ∷ []
 numbered-passed p g xs i x is passes =
     ap (λ l. map g (filter p l)) (enumerate_from-take xs i x is)
     ∙ ap (map g) (filter-append p (enumerate_from 0 (take i xs)) ((i, x) ∷ []))
@@ -56,7 +74,11 @@ numbered-passed p g xs i x is passes =
     ∙ map-append g (filter p (enumerate_from 0 (take i xs))) ((i, x) ∷ [])
 
 -- it doesn't pass
-pub numbered-failed : {X Z : Type 0} (p : ℕ × X → Bool) (g : ℕ × X → Z) (xs : List X) (i : ℕ) (x : X) → slice_get xs i ≡ Some x → p (i, x) ≡ false → map g (filter p (enumerate_from 0 (take (i + 1) xs))) ≡ map g (filter p (enumerate_from 0 (take i xs)))
+pub numbered-failed : {X Z : Type 0} (p : ℕ × X → Bool) (g : ℕ × X → Z) (xs : List X) (i : ℕ)
+    (x : X)
+    → slice_get xs i ≡ Some x → p (i, x) ≡ false
+    → map g (filter p (enumerate_from 0 (take (i + 1) xs)))
+    ≡ map g (filter p (enumerate_from 0 (take i xs)))
 numbered-failed p g xs i x is fails =
     ap (λ l. map g (filter p l)) (enumerate_from-take xs i x is)
     ∙ ap (map g) (filter-append p (enumerate_from 0 (take i xs)) ((i, x) ∷ []))
@@ -68,29 +90,36 @@ or-true true = refl
 or-true false = refl
 
 -- one of n numbers from a on passes
-some_from : (p : ℕ → Bool) (a n k : ℕ) → k < n → p (a + k) ≡ true → list_any p (range_with_len a n) ≡ true
+some_from : (p : ℕ → Bool) (a n k : ℕ) → k < n → p (a + k) ≡ true
+    → list_any p (range_with_len a n) ≡ true
 some_from p a zero k less passes = absurd (omega arith)
 some_from p a (suc n) zero less passes =
     let here : p a ≡ true = rw (add-zero a) at passes in rw here refl
 some_from p a (suc n) (suc k) less passes =
     let same : a + suc k ≡ a + 1 + k = omega arith in
-    let later : list_any p (range_with_len (a + 1) n) ≡ true = some_from p (a + 1) n k (omega arith) (rw same at passes) in
+    let later : list_any p (range_with_len (a + 1) n) ≡ true
+    = some_from p (a + 1) n k (omega arith) (rw same at passes) in
     rw later (or-true (p a))
 
 -- none of n numbers from a on passes
-none_from : (p : ℕ → Bool) (a n : ℕ) → ((k : ℕ) → k < n → p (a + k) ≡ false) → list_any p (range_with_len a n) ≡ false
+none_from : (p : ℕ → Bool) (a n : ℕ) → ((k : ℕ) → k < n → p (a + k) ≡ false)
+    → list_any p (range_with_len a n) ≡ false
 none_from p a zero fails = refl
 none_from p a (suc n) fails =
     let here : p a ≡ false = rw (add-zero a) at (fails 0 (omega arith)) in
     rw here
-    (none_from p (a + 1) n (λ k less. let same : a + suc k ≡ a + 1 + k = omega arith in rw same at (fails (suc k) (omega arith))))
+    (none_from p (a + 1) n
+    (λ k less. let same : a + suc k ≡ a + 1 + k
+    = omega arith in rw same at (fails (suc k) (omega arith))))
 
 -- one of the numbers below n passes
-pub some_number : (p : ℕ → Bool) (n k : ℕ) → k < n → p k ≡ true → list_any p (range_with_len 0 n) ≡ true
+pub some_number : (p : ℕ → Bool) (n k : ℕ) → k < n → p k ≡ true
+    → list_any p (range_with_len 0 n) ≡ true
 some_number p n k less passes = some_from p 0 n k less (rw (zero-add k) passes)
 
 -- none of them passes
-pub no_number : (p : ℕ → Bool) (n : ℕ) → ((k : ℕ) → k < n → p k ≡ false) → list_any p (range_with_len 0 n) ≡ false
+pub no_number : (p : ℕ → Bool) (n : ℕ) → ((k : ℕ) → k < n → p k ≡ false)
+    → list_any p (range_with_len 0 n) ≡ false
 no_number p n fails = none_from p 0 n (λ k less. rw (zero-add k) (fails k less))
 
 -- the numbers below n, by their places
@@ -98,4 +127,5 @@ pub range-at : (a n i : ℕ) → i < n → slice_get (range_with_len a n) i ≡ 
 range-at a zero i less = absurd (omega arith)
 range-at a (suc n) zero less = ap Some (sym (add-zero a))
 range-at a (suc n) (suc i) less =
-    let same : a + 1 + i ≡ a + suc i = omega arith in range-at (a + 1) n i (omega arith) ∙ ap Some same
+    let same : a + 1 + i ≡ a + suc i
+    = omega arith in range-at (a + 1) n i (omega arith) ∙ ap Some same

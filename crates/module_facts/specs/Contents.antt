@@ -1,5 +1,6 @@
 -- The bytes of an object's sections. gABI 4, "Sections".
-use Rattle.std.specs.Prelude.{ℕ, ◌==◌, List, [], slice_get, Option, Some, None, option_and_then, unwrap_or, codes, if◌then◌else◌}
+use Rattle.std.specs.Prelude.{ℕ, ◌==◌, List, [], slice_get, Option, Some, None, option_and_then}
+use Rattle.std.specs.Prelude.{unwrap_or, codes, if◌then◌else◌}
 use Rattle.std.specs.List.{position}
 use Rattle.std.specs.Option.{option_map_or}
 use Rattle.std.specs.Str.{bytes_eq}
@@ -14,7 +15,8 @@ section_contents o i = option_map_or (bytes_of o.file) (slice_get o.sections i) 
 
 -- The first section of this name.
 unfoldable pub named_section : FileObject → List ℕ → Option Section
-named_section o name = option_and_then (slice_get o.sections) (position (λ s. bytes_eq s.name name) o.sections)
+named_section o name =
+    option_and_then (slice_get o.sections) (position (λ s. bytes_eq s.name name) o.sections)
 
 -- The file's bytes of a section, maybe an empty list. It is None if the section is of type NOBITS.
 abbrev pub bytes_in : List ℕ → Section → Option (List ℕ)

@@ -1,5 +1,7 @@
 -- The exports of a module, with their versions and namespaces. The kernel's include/linux/export.h.
-use Rattle.std.specs.Prelude.{ℕ, ◌+◌, ◌==◌, nat_le, Bool, false, List, [], length, map, codes, slice_get, Option, Some, None, unwrap_or, option_and_then, if◌then◌else◌}
+use Rattle.std.specs.Prelude.{ℕ, ◌+◌, ◌==◌, nat_le, Bool, false, List, [], length, map, codes}
+use Rattle.std.specs.Prelude.{slice_get, Option, Some, None, unwrap_or, option_and_then}
+use Rattle.std.specs.Prelude.{if◌then◌else◌}
 use Rattle.std.specs.List.{filter_map}
 use Rattle.std.specs.Option.{option_map_or}
 use Rattle.std.specs.Str.{bytes_eq}
@@ -9,7 +11,8 @@ use Rattle.elf_format.specs.declared.symbol.TheConstants.{SHN_ABS}
 use Rattle.elf_object.specs.declared.symbol.Symbol.{Symbol}
 use Rattle.elf_object.specs.Object.{FileObject}
 use Rattle.module_facts.specs.declared.facts.Export.{Export}
-use Rattle.module_facts.specs.declared.role.Role.TheVariants.{Export as OfExport, Version, Space, Definition}
+use Rattle.module_facts.specs.declared.role.Role.TheVariants.{Export as OfExport, Version, Space}
+use Rattle.module_facts.specs.declared.role.Role.TheVariants.{Definition}
 use Rattle.module_facts.specs.Contents.{section_contents}
 use Rattle.module_facts.specs.Roles.{first_symbol, stated_name, symbol_of}
 
@@ -24,7 +27,9 @@ given_version o s =
 
 -- Whether the symbol lies in a section for GPL-only exports.
 unfoldable pub is_gpl_entry : FileObject → Symbol → Bool
-is_gpl_entry o s = option_map_or (λ x. bytes_eq x.name (codes "__ksymtab_gpl")) (slice_get o.sections s.section) false
+is_gpl_entry o s =
+    option_map_or (λ x. bytes_eq x.name (codes "__ksymtab_gpl")) (slice_get o.sections s.section)
+    false
 
 -- The namespace that a symbol gives: the text at its value in its section, up to the next NUL. An
 -- absolute symbol gives none, nor does one whose section has no bytes in the file.

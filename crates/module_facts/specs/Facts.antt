@@ -19,7 +19,8 @@ texts_of o key = values_of_key key (fields_of (modinfo_bytes o))
 -- The licenses that permit a module to use GPL-only symbols. include/linux/license.h.
 abbrev pub free_licenses : List (List ℕ)
 free_licenses =
-    codes "GPL" ∷ codes "GPL v2" ∷ codes "GPL and additional rights" ∷ codes "Dual BSD/GPL" ∷ codes "Dual MIT/GPL"
+    codes "GPL" ∷ codes "GPL v2" ∷ codes "GPL and additional rights" ∷ codes "Dual BSD/GPL"
+    ∷ codes "Dual MIT/GPL"
     ∷ codes "Dual MPL/GPL" ∷ []
 
 -- Whether the license is one of these.

@@ -4,7 +4,11 @@ use Rattle.elf_object.specs.declared.fault.ObjectFault.{ObjectFault}
 use Rattle.elf_object.specs.declared.fault.ObjectFault.TheVariants.{Memory as ObjectMemory}
 use Rattle.elf_object.specs.FaultText.{object_fault_text}
 use Rattle.module_facts.specs.declared.fault.ModuleFault.{ModuleFault}
-use Rattle.module_facts.specs.declared.fault.ModuleFault.TheVariants.{Compressed, Object, NameTooLong, BadName, ExportTwice, ExportUndefined, BadVersions, BadNamespace, Memory}
+use Rattle.module_facts.specs.declared.fault.ModuleFault.TheVariants.{Compressed, Object}
+use Rattle.module_facts.specs.declared.fault.ModuleFault.TheVariants.{NameTooLong, BadName}
+use Rattle.module_facts.specs.declared.fault.ModuleFault.TheVariants.{ExportTwice, ExportUndefined}
+use Rattle.module_facts.specs.declared.fault.ModuleFault.TheVariants.{BadVersions, BadNamespace}
+use Rattle.module_facts.specs.declared.fault.ModuleFault.TheVariants.{Memory}
 
 -- The text of a fault of a module.
 abbrev pub module_fault_text : ModuleFault → List ℕ

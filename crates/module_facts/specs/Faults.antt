@@ -1,5 +1,6 @@
 -- The faults of a module.
-use Rattle.std.specs.Prelude.{ℕ, ◌&&◌, ◌||◌, nat_lt, not, Bool, false, List, [], ◌∷◌, length, find, Option, is_none, option_map}
+use Rattle.std.specs.Prelude.{ℕ, ◌&&◌, ◌||◌, nat_lt, not, Bool, false, List, [], ◌∷◌, length, find}
+use Rattle.std.specs.Prelude.{Option, is_none, option_map}
 use Rattle.std.specs.List.{count_by, list_all, list_any}
 use Rattle.std.specs.Option.{option_map_or}
 use Rattle.std.specs.Str.{bytes_eq}
@@ -12,7 +13,10 @@ use Rattle.module_facts.specs.declared.facts.Export.{Export}
 use Rattle.module_facts.specs.declared.facts.Need.{Need}
 use Rattle.module_facts.specs.declared.facts.Facts.{Facts}
 use Rattle.module_facts.specs.declared.fault.ModuleFault.{ModuleFault}
-use Rattle.module_facts.specs.declared.fault.ModuleFault.TheVariants.{Compressed, Object, NameTooLong, BadName, ExportTwice, ExportUndefined, BadVersions, BadNamespace}
+use Rattle.module_facts.specs.declared.fault.ModuleFault.TheVariants.{Compressed, Object}
+use Rattle.module_facts.specs.declared.fault.ModuleFault.TheVariants.{NameTooLong, BadName}
+use Rattle.module_facts.specs.declared.fault.ModuleFault.TheVariants.{ExportTwice, ExportUndefined}
+use Rattle.module_facts.specs.declared.fault.ModuleFault.TheVariants.{BadVersions, BadNamespace}
 use Rattle.module_facts.specs.declared.role.Role.TheVariants.{Version, Space, Definition}
 use Rattle.module_facts.specs.Roles.{first_symbol, symbol_of}
 use Rattle.module_facts.specs.Versions.{is_bad_list}
@@ -23,7 +27,9 @@ use Rattle.module_facts.specs.Facts.{object_facts}
 -- and all bytes are visible characters of ASCII.
 unfoldable pub has_good_names : Facts → Bool
 has_good_names f =
-    is_graphic f.name && list_all (λ (e : Export). is_graphic e.name) f.exports && list_all (λ (n : Need). is_graphic n.name) f.needs
+    is_graphic f.name
+    && list_all (λ (e : Export). is_graphic e.name) f.exports
+    && list_all (λ (n : Need). is_graphic n.name) f.needs
 
 -- Whether two or more of the exports have this one's name.
 unfoldable pub is_twice : List Export → Export → Bool
@@ -44,7 +50,8 @@ undefined_test o exports = option_map (λ e. ExportUndefined e.name) (find (is_u
 
 -- Whether the symbol that gives the export's version has no 4 bytes in its section of the file.
 unfoldable pub has_bad_version : FileObject → Export → Bool
-has_bad_version o e = option_map_or (λ s. is_none (given_version o s)) (symbol_of Version o e.name) false
+has_bad_version o e =
+    option_map_or (λ s. is_none (given_version o s)) (symbol_of Version o e.name) false
 
 -- Whether the versions of the needs or of the exports are invalid.
 unfoldable pub has_bad_versions : FileObject → List Export → Bool

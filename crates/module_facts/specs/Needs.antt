@@ -13,7 +13,8 @@ use Rattle.module_facts.specs.Versions.{stated_version, version_list}
 -- table, which the linker makes. Symbol 0 is no symbol. gABI 4, "Symbol Table"; x86-64 psABI,
 -- "Global Offset Table".
 unfoldable pub is_need : ℕ → Symbol → Bool
-is_need i s = nat_lt 0 i && not (is_defined s) && not (bytes_eq s.name (codes "_GLOBAL_OFFSET_TABLE_"))
+is_need i s =
+    nat_lt 0 i && not (is_defined s) && not (bytes_eq s.name (codes "_GLOBAL_OFFSET_TABLE_"))
 
 -- The need that the symbol i states, by a version list.
 unfoldable pub need_of : List (List ℕ × ℕ) → ℕ → Symbol → Need
@@ -26,4 +27,6 @@ need_of versions i s = record {
 
 -- The needs, in the order of their symbols.
 unfoldable pub needs_of : FileObject → List Need
-needs_of o = map (λ p. need_of (version_list o) p.0 p.1) (filter (λ p. is_need p.0 p.1) (enumerate_from 0 o.symbols))
+needs_of o =
+    map (λ p. need_of (version_list o) p.0 p.1)
+    (filter (λ p. is_need p.0 p.1) (enumerate_from 0 o.symbols))

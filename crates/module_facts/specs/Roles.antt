@@ -1,7 +1,8 @@
 -- What the symbols of an object file state of names. The kernel's EXPORT_SYMBOL writes a symbol
 -- `__ksymtab_N` for the export N (include/linux/export.h), `__crc_N` for its version, and
 -- `__kstrtabns_N` for its namespace.
-use Rattle.std.specs.Prelude.{ℕ, ◌==◌, ◌&&◌, ◌||◌, nat_eq, not, Bool, List, length, drop, map, codes, slice_get, Option, Some, None, option_and_then, if◌then◌else◌}
+use Rattle.std.specs.Prelude.{ℕ, ◌==◌, ◌&&◌, ◌||◌, nat_eq, not, Bool, List, length, drop, map}
+use Rattle.std.specs.Prelude.{codes, slice_get, Option, Some, None, option_and_then, if◌then◌else◌}
 use Rattle.std.specs.List.{starts_with}
 use Rattle.elf_format.specs.declared.symbol.TheConstants.{SHN_UNDEF, STB_GLOBAL, STB_WEAK}
 use Rattle.elf_object.specs.declared.symbol.Symbol.{Symbol}
@@ -16,7 +17,8 @@ is_defined s = not (s.section == SHN_UNDEF)
 
 -- The rest of a name after a prefix, if the name begins with it.
 abbrev pub after_prefix : List ℕ → List ℕ → Option (List ℕ)
-after_prefix prefix name = if starts_with nat_eq name prefix then Some (drop (length prefix) name) else None
+after_prefix prefix name =
+    if starts_with nat_eq name prefix then Some (drop (length prefix) name) else None
 
 -- The name after a prefix in the name of a defined symbol.
 abbrev pub name_after : List ℕ → Symbol → Option (List ℕ)
@@ -24,7 +26,8 @@ name_after prefix s = if is_defined s then after_prefix prefix s.name else None
 
 -- The name that other files can use for the symbol: its own if it is defined, and global or weak.
 abbrev pub defined_name : Symbol → Option (List ℕ)
-defined_name s = if is_defined s && (s.binding == STB_GLOBAL || s.binding == STB_WEAK) then Some s.name else None
+defined_name s =
+    if is_defined s && (s.binding == STB_GLOBAL || s.binding == STB_WEAK) then Some s.name else None
 
 -- The name that a symbol states in a role.
 unfoldable pub stated_name : Role → Symbol → Option (List ℕ)

@@ -3,7 +3,9 @@
 -- kernel's scripts/mod/modpost.c). If the file doesn't have both of these, `__versions` gives it.
 -- Its entries of 64 bytes are the kernel's struct modversion_info (include/linux/module.h): a
 -- number, and a name that ends with a NUL.
-use Rattle.std.specs.Prelude.{ℕ, ◌+◌, ◌*◌, ◌/◌, ◌%◌, ◌==◌, ◌||◌, nat_lt, not, Bool, false, List, [], ◌∷◌, length, map, take, drop, codes, Option, is_none, option_map, option_and_then, find}
+use Rattle.std.specs.Prelude.{ℕ, ◌+◌, ◌*◌, ◌/◌, ◌%◌, ◌==◌, ◌||◌, nat_lt, not, Bool, false, List, []}
+use Rattle.std.specs.Prelude.{◌∷◌, length, map, take, drop, codes, Option, is_none, option_map}
+use Rattle.std.specs.Prelude.{option_and_then, find}
 use Rattle.std.specs.List.{count_by, filter_map, list_any, range_with_len, slice_split, zip}
 use Rattle.std.specs.Option.{option_map_or}
 use Rattle.std.specs.Str.{bytes_eq}
@@ -17,7 +19,8 @@ use Rattle.module_facts.specs.Contents.{named_bytes}
 -- The bytes of its two sections, if both are in the file.
 unfoldable pub extended_bytes : FileObject → Option (List ℕ × List ℕ)
 extended_bytes o =
-    option_and_then (λ crcs. option_map (λ names. (crcs, names)) (named_bytes o (codes "__version_ext_names")))
+    option_and_then
+    (λ crcs. option_map (λ names. (crcs, names)) (named_bytes o (codes "__version_ext_names")))
     (named_bytes o (codes "__version_ext_crcs"))
 
 -- The numbers of 4 bytes.
@@ -40,7 +43,8 @@ extended_list crcs names = zip (ended_names names) (crcs_of crcs)
 
 -- Whether the last number isn't whole, or there are more numbers than NULs.
 unfoldable pub is_bad_extended : List ℕ → List ℕ → Bool
-is_bad_extended crcs names = not (length crcs % 4 == 0) || nat_lt (count_by (λ b. b == 0) names) (length crcs / 4)
+is_bad_extended crcs names =
+    not (length crcs % 4 == 0) || nat_lt (count_by (λ b. b == 0) names) (length crcs / 4)
 
 -- ---- the entries of `__versions`
 
@@ -62,7 +66,9 @@ entry_list bytes = filter_map (entry bytes) (entry_numbers bytes)
 
 -- Whether the last entry isn't whole, or a name has no NUL.
 unfoldable pub are_bad_entries : List ℕ → Bool
-are_bad_entries bytes = not (length bytes % 64 == 0) || list_any (λ k. is_none (entry_name bytes k)) (entry_numbers bytes)
+are_bad_entries bytes =
+    not (length bytes % 64 == 0)
+    || list_any (λ k. is_none (entry_name bytes k)) (entry_numbers bytes)
 
 -- ---- the list
 
@@ -73,11 +79,15 @@ entry_bytes o = named_bytes o (codes "__versions")
 -- The version list: from the extended form if the file has it, even an empty one, and otherwise
 -- from the entries. It is empty if the file has neither form.
 unfoldable pub version_list : FileObject → List (List ℕ × ℕ)
-version_list o = option_map_or (λ p. extended_list p.0 p.1) (extended_bytes o) (option_map_or entry_list (entry_bytes o) [])
+version_list o =
+    option_map_or (λ p. extended_list p.0 p.1) (extended_bytes o)
+    (option_map_or entry_list (entry_bytes o) [])
 
 -- Whether the sections with the version list are invalid.
 unfoldable pub is_bad_list : FileObject → Bool
-is_bad_list o = option_map_or (λ p. is_bad_extended p.0 p.1) (extended_bytes o) (option_map_or are_bad_entries (entry_bytes o) false)
+is_bad_list o =
+    option_map_or (λ p. is_bad_extended p.0 p.1) (extended_bytes o)
+    (option_map_or are_bad_entries (entry_bytes o) false)
 
 -- The number that a list has for a name, from the first entry of the name.
 unfoldable pub stated_version : List (List ℕ × ℕ) → List ℕ → Option ℕ

@@ -6,7 +6,9 @@ ghost use Rattle.km_names.specs.Ascii.{is_graphic};
 ghost use Rattle.km_names.specs.First.{first};
 ghost use Rattle.module_facts.specs.Times.{HasSeen};
 ghost use Rattle.module_facts.specs.SymbolTables.{AreTablesFor, HasTables};
-ghost use Rattle.module_facts.specs.Faults.{facts_tests, has_bad_space, has_bad_version, has_bad_versions, has_good_names, is_twice, is_undefined, space_test, twice_test, undefined_test};
+ghost use Rattle.module_facts.specs.Faults.{facts_tests, has_bad_space, has_bad_version};
+ghost use Rattle.module_facts.specs.Faults.{has_bad_versions, has_good_names, is_twice};
+ghost use Rattle.module_facts.specs.Faults.{is_undefined, space_test, twice_test, undefined_test};
 
 use crate::exports::{given_space, given_version};
 use crate::role::Role;
@@ -78,7 +80,8 @@ fn first_twice<'a>(alloc: Global, exports: &'a [Export]) -> Result<Option<&'a Ex
 /// Tests that no two exports have one name.
 fn check_once(alloc: Global, exports: &[Export]) -> Result<(), ModuleFault>
     ensures passed { OnOk result (twice_test exports.now ≡ None) }
-    ensures fault { IfErr result (λ e. (e ≡ ModuleFault.Memory) ⊎ (twice_test exports.now ≡ Some e)) }
+    ensures fault { IfErr result
+        (λ e. (e ≡ ModuleFault.Memory) ⊎ (twice_test exports.now ≡ Some e)) }
 {
     match first_twice(alloc, exports)? {
         Some(export) => Err(ModuleFault::ExportTwice {
@@ -123,7 +126,8 @@ fn check_defined(
 ) -> Result<(), ModuleFault>
     requires { AreTablesFor exports.now object.now (option_copied tables) }
     ensures passed { OnOk result (undefined_test object.now exports.now ≡ None) }
-    ensures fault { IfErr result (λ e. (e ≡ ModuleFault.Memory) ⊎ (undefined_test object.now exports.now ≡ Some e)) }
+    ensures fault { IfErr result
+        (λ e. (e ≡ ModuleFault.Memory) ⊎ (undefined_test object.now exports.now ≡ Some e)) }
 {
     match first_undefined(object, tables, exports) {
         Some(export) => Err(ModuleFault::ExportUndefined {
@@ -207,7 +211,8 @@ fn check_spaces(
 ) -> Result<(), ModuleFault>
     requires { AreTablesFor exports.now object.now (option_copied tables) }
     ensures passed { OnOk result (space_test object.now exports.now ≡ None) }
-    ensures fault { IfErr result (λ e. (e ≡ ModuleFault.Memory) ⊎ (space_test object.now exports.now ≡ Some e)) }
+    ensures fault { IfErr result
+        (λ e. (e ≡ ModuleFault.Memory) ⊎ (space_test object.now exports.now ≡ Some e)) }
 {
     match first_bad_space(object, tables, exports) {
         Some(export) => Err(ModuleFault::BadNamespace {

@@ -1,10 +1,12 @@
 // The exports of a module.
 
-ghost use Rattle.std.specs.Prelude.{◌≡◌, ◌≤◌, [], false, length, IfOk, option_and_then, option_copied, unwrap_or};
+ghost use Rattle.std.specs.Prelude.{◌≡◌, ◌≤◌, [], false, length, IfOk, option_and_then};
+ghost use Rattle.std.specs.Prelude.{option_copied, unwrap_or};
 ghost use Rattle.std.specs.Option.{option_map_or};
 ghost use Rattle.elf_object.specs.Symbols.{owned_symbol};
 ghost use Rattle.module_facts.specs.Roles.{symbol_of};
-ghost use Rattle.module_facts.specs.Exports.{export_of, exports_of, given_space, given_version, is_gpl_entry};
+ghost use Rattle.module_facts.specs.Exports.{export_of, exports_of, given_space, given_version};
+ghost use Rattle.module_facts.specs.Exports.{is_gpl_entry};
 ghost use Rattle.module_facts.specs.SymbolTables.{AreTablesFor, HasTables};
 
 use crate::contents::section_contents;
@@ -56,7 +58,10 @@ pub(crate) fn given_space<'a>(object: &ObjectView<'a>, symbol: SymbolRef) -> Opt
 /// Returns the namespace of an export, which is empty if no symbol gives one.
 fn space_of<'a>(object: &ObjectView<'a>, tables: &SymbolTables, name: &[u8]) -> &'a [u8]
     requires { HasTables tables.now object.now }
-    ensures { result.now ≡ unwrap_or (option_and_then (given_space object.now) (symbol_of Role.Space object.now name.now)) [] }
+    ensures { result.now
+        ≡ unwrap_or
+        (option_and_then (given_space object.now) (symbol_of Role.Space object.now name.now))
+        [] }
 {
     match symbol_of(object, tables, Role::Space, name) {
         Some(symbol) => given_space(object, symbol).unwrap_or(&[]),
@@ -67,7 +72,8 @@ fn space_of<'a>(object: &ObjectView<'a>, tables: &SymbolTables, name: &[u8]) -> 
 /// Returns the version of an export, if a symbol gives one.
 fn version_of(object: &ObjectView, tables: &SymbolTables, name: &[u8]) -> Option<u64>
     requires { HasTables tables.now object.now }
-    ensures { result ≡ option_and_then (given_version object.now) (symbol_of Role.Version object.now name.now) }
+    ensures { result
+        ≡ option_and_then (given_version object.now) (symbol_of Role.Version object.now name.now) }
 {
     let symbol = symbol_of(object, tables, Role::Version, name)?;
     given_version(object, symbol)
@@ -76,7 +82,9 @@ fn version_of(object: &ObjectView, tables: &SymbolTables, name: &[u8]) -> Option
 /// Returns whether an export is GPL-only.
 fn is_gpl(object: &ObjectView, tables: &SymbolTables, name: &[u8]) -> bool
     requires { HasTables tables.now object.now }
-    ensures { result ≡ option_map_or (is_gpl_entry object.now) (symbol_of Role.Export object.now name.now) false }
+    ensures { result
+        ≡ option_map_or (is_gpl_entry object.now) (symbol_of Role.Export object.now name.now)
+        false }
 {
     match symbol_of(object, tables, Role::Export, name) {
         Some(symbol) => is_gpl_entry(object, symbol),

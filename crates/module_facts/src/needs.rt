@@ -32,7 +32,8 @@ fn read_need(
     symbol: SymbolRef,
 ) -> Result<Need, AllocError>
     requires { IsTableOf table.now (map (λ v. Some v.name.now) versions.now) }
-    ensures { IfOk result (λ need. need ≡ need_of (map version_entry versions.now) i (owned_symbol symbol.entry)) }
+    ensures { IfOk result
+        (λ need. need ≡ need_of (map version_entry versions.now) i (owned_symbol symbol.entry)) }
 {
     Ok(Need {
         name: Name::from_slice(alloc, symbol.name)?,

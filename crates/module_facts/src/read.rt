@@ -1,6 +1,7 @@
 // Reads a module from the bytes of its file.
 
-ghost use Rattle.std.specs.Prelude.{◌≡◌, ◌≤◌, ◌⊎◌, length, None, Some, IfOk, IfErr, OnOk, option_copied};
+ghost use Rattle.std.specs.Prelude.{◌≡◌, ◌≤◌, ◌⊎◌, length, None, Some, IfOk, IfErr, OnOk};
+ghost use Rattle.std.specs.Prelude.{option_copied};
 ghost use Rattle.km_names.specs.First.{first};
 ghost use Rattle.km_names.specs.Limit.{file_limit};
 ghost use Rattle.module_facts.specs.Module.{IsSound};
@@ -51,9 +52,11 @@ fn facts_by(
 /// Returns the facts of the module at a path, after all tests that they must pass.
 fn checked_facts(alloc: Global, path: &PathText, object: &ObjectView) -> Result<Facts, ModuleFault>
     ensures facts { IfOk result (λ facts. facts ≡ object_facts path.now object.now) }
-    ensures passed { OnOk result (first (facts_tests object.now (object_facts path.now object.now)) ≡ None) }
+    ensures passed { OnOk result
+        (first (facts_tests object.now (object_facts path.now object.now)) ≡ None) }
     ensures fault { IfErr result
-        (λ e. (e ≡ ModuleFault.Memory) ⊎ (first (facts_tests object.now (object_facts path.now object.now)) ≡ Some e)) }
+        (λ e. (e ≡ ModuleFault.Memory)
+        ⊎ (first (facts_tests object.now (object_facts path.now object.now)) ≡ Some e)) }
 {
     let tables = tables_of(alloc, object)?;
     facts_by_tables(alloc, path, object, tables.as_ref())
@@ -69,9 +72,11 @@ fn facts_by_tables(
 ) -> Result<Facts, ModuleFault>
     requires { AreTablesFor (exports_of object.now) object.now (option_copied tables) }
     ensures facts { IfOk result (λ facts. facts ≡ object_facts path.now object.now) }
-    ensures passed { OnOk result (first (facts_tests object.now (object_facts path.now object.now)) ≡ None) }
+    ensures passed { OnOk result
+        (first (facts_tests object.now (object_facts path.now object.now)) ≡ None) }
     ensures fault { IfErr result
-        (λ e. (e ≡ ModuleFault.Memory) ⊎ (first (facts_tests object.now (object_facts path.now object.now)) ≡ Some e)) }
+        (λ e. (e ≡ ModuleFault.Memory)
+        ⊎ (first (facts_tests object.now (object_facts path.now object.now)) ≡ Some e)) }
 {
     let facts = facts_by(alloc, path, object, tables)?;
     check_facts(alloc, object, tables, &facts)?;
@@ -81,9 +86,11 @@ fn facts_by_tables(
 /// Returns the facts of the module at a path, by its object.
 fn facts_of_object(alloc: Global, path: &PathText, object: &Object) -> Result<Facts, ModuleFault>
     ensures facts { IfOk result (λ facts. facts ≡ object_facts path.now object.now) }
-    ensures passed { OnOk result (first (facts_tests object.now (object_facts path.now object.now)) ≡ None) }
+    ensures passed { OnOk result
+        (first (facts_tests object.now (object_facts path.now object.now)) ≡ None) }
     ensures fault { IfErr result
-        (λ e. (e ≡ ModuleFault.Memory) ⊎ (first (facts_tests object.now (object_facts path.now object.now)) ≡ Some e)) }
+        (λ e. (e ≡ ModuleFault.Memory)
+        ⊎ (first (facts_tests object.now (object_facts path.now object.now)) ≡ Some e)) }
 {
     let view = object.view(alloc)?;
     checked_facts(alloc, path, &view)
@@ -103,7 +110,8 @@ pub fn read_module(alloc: Global, path: &PathText, bytes: Blob) -> Result<Module
     ensures path { IfOk result (λ m. m.facts.path ≡ path.now) }
     ensures sound { IfOk result (λ m. IsSound m.object m.facts) }
     ensures passed { OnOk result (fact_fault path.now bytes ≡ None) }
-    ensures fault { IfErr result (λ e. (e ≡ ModuleFault.Memory) ⊎ (fact_fault path.now bytes ≡ Some e)) }
+    ensures fault { IfErr result
+        (λ e. (e ≡ ModuleFault.Memory) ⊎ (fact_fault path.now bytes ≡ Some e)) }
 {
     if is_compressed(path) {
         return Err(ModuleFault::Compressed);
@@ -127,7 +135,8 @@ pub fn read_facts(alloc: Global, path: &PathText, bytes: &[u8]) -> Result<Facts,
     ensures path { IfOk result (λ facts. facts.path ≡ path.now) }
     ensures sound { IfOk result (λ facts. IsSound (file_object bytes.now) facts) }
     ensures passed { OnOk result (fact_fault path.now bytes.now ≡ None) }
-    ensures fault { IfErr result (λ e. (e ≡ ModuleFault.Memory) ⊎ (fact_fault path.now bytes.now ≡ Some e)) }
+    ensures fault { IfErr result
+        (λ e. (e ≡ ModuleFault.Memory) ⊎ (fact_fault path.now bytes.now ≡ Some e)) }
 {
     if is_compressed(path) {
         return Err(ModuleFault::Compressed);

@@ -55,7 +55,8 @@ impl<'a> SymbolTables<'a> {
 
     /// Returns the number of the first symbol that states a name in a role.
     pub(crate) fn first_symbol(&self, role: Role, name: &[u8]) -> Option<u32>
-        ensures { (object : FileObject) → HasTables self.now object → result ≡ first_symbol role object name.now }
+        ensures { (object : FileObject) → HasTables self.now object
+            → result ≡ first_symbol role object name.now }
     {
         match role {
             Role::Export => self.exports.place(name),

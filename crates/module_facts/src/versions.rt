@@ -1,11 +1,14 @@
 // The versions that a module states of its needs.
 
-ghost use Rattle.std.specs.Prelude.{◌≡◌, ◌+◌, ◌*◌, ◌/◌, ◌<◌, ◌≤◌, ◌-◌, ◌^◌, ◌==◌, length, map, drop, Some, IfOk, IfSome, option_copied, option_map};
+ghost use Rattle.std.specs.Prelude.{◌≡◌, ◌+◌, ◌*◌, ◌/◌, ◌<◌, ◌≤◌, ◌-◌, ◌^◌, ◌==◌, length, map};
+ghost use Rattle.std.specs.Prelude.{drop, Some, IfOk, IfSome, option_copied, option_map};
 ghost use Rattle.std.specs.List.{count_by};
 ghost use Rattle.km_names.specs.Limit.{file_limit};
 ghost use Rattle.name_table.specs.NameTable.{IsTableOf};
 ghost use Rattle.module_facts.specs.Listed.{version_entry};
-ghost use Rattle.module_facts.specs.Versions.{are_bad_entries, entry_list, entry_name, extended_bytes, extended_list, is_bad_extended, is_bad_list, stated_version, version_list};
+ghost use Rattle.module_facts.specs.Versions.{are_bad_entries, entry_list, entry_name};
+ghost use Rattle.module_facts.specs.Versions.{extended_bytes, extended_list, is_bad_extended};
+ghost use Rattle.module_facts.specs.Versions.{is_bad_list, stated_version, version_list};
 
 use crate::contents::named_bytes;
 use elf_object::ObjectView;

@@ -15,8 +15,10 @@ region-by base size is = record {
 }
 
 -- the region of a base and a size for which the test answers this
-abbrev pub region_when : (base size : ℕ) (answer : Bool) → is_region base size ≡ answer → Option Region
-region_when base size true is = Some (record { base = base; size = size; pages = region-by base size is })
+abbrev pub region_when : (base size : ℕ) (answer : Bool) → is_region base size ≡ answer
+    → Option Region
+region_when base size true is =
+    Some (record { base = base; size = size; pages = region-by base size is })
 region_when base size false is = None
 
 -- The region of a base and a size, if there is one.

@@ -13,4 +13,5 @@ pub record IsRegion (base size : ℕ) : Type 0 where
 
 -- Whether this many bytes from a base on are a region.
 abbrev pub is_region : ℕ → ℕ → Bool
-is_region base size = base % PAGE == 0 && size % PAGE == 0 && nat_lt 0 size && nat_le (base + size) (2 ^ 64)
+is_region base size =
+    base % PAGE == 0 && size % PAGE == 0 && nat_lt 0 size && nat_le (base + size) (2 ^ 64)

@@ -1,6 +1,7 @@
 -- The aliases of a configuration as the code keeps them, with their places among the rules.
 -- It belongs to the code: no public meaning rests on it. modprobe.d(5).
-use Rattle.std.specs.Prelude.{◌≡◌, ℕ, suc, ◌+◌, nat_lt, List, [], ◌∷◌, ◌++◌, map, take, Option, Some, None, if◌then◌else◌}
+use Rattle.std.specs.Prelude.{◌≡◌, ℕ, suc, ◌+◌, nat_lt, List, [], ◌∷◌, ◌++◌, map, take, Option}
+use Rattle.std.specs.Prelude.{Some, None, if◌then◌else◌}
 use Rattle.std.specs.List.{list_any}
 use Rattle.std.specs.Option.{option_map_or}
 use Rattle.std.specs.Str.{bytes_eq}
@@ -29,11 +30,14 @@ shown_wild alias = (alias.place, alias.front.now ++ alias.rest.now, alias.name.n
 -- The alias at a place, if its pattern has no wildcard and is this name.
 abbrev pub plain_alias : ℕ → List ℕ → List ℕ → List ℕ → List Plain
 plain_alias place pattern name x =
-    if list_any is_wildcard pattern then [] else (if bytes_eq pattern x then (place, name) ∷ [] else [])
+    if list_any is_wildcard pattern
+    then []
+    else (if bytes_eq pattern x then (place, name) ∷ [] else [])
 
 -- The alias at a place, if its pattern has a wildcard.
 abbrev pub wild_alias : ℕ → List ℕ → List ℕ → List Wild
-wild_alias place pattern name = if list_any is_wildcard pattern then (place, pattern, name) ∷ [] else []
+wild_alias place pattern name =
+    if list_any is_wildcard pattern then (place, pattern, name) ∷ [] else []
 
 -- The pattern and the name of an alias.
 abbrev pub alias_parts : Rule → Option (List ℕ × List ℕ)
@@ -42,10 +46,12 @@ alias_parts _ = None
 
 -- The alias of a rule at a place, if it is one: with no wildcard and this name, or with a wildcard.
 abbrev pub plain_here : ℕ → List ℕ → Rule → List Plain
-plain_here place x rule = option_map_or (λ parts. plain_alias place parts.0 parts.1 x) (alias_parts rule) []
+plain_here place x rule =
+    option_map_or (λ parts. plain_alias place parts.0 parts.1 x) (alias_parts rule) []
 
 abbrev pub wild_here : ℕ → Rule → List Wild
-wild_here place rule = option_map_or (λ parts. wild_alias place parts.0 parts.1) (alias_parts rule) []
+wild_here place rule =
+    option_map_or (λ parts. wild_alias place parts.0 parts.1) (alias_parts rule) []
 
 -- The aliases of rules whose pattern has no wildcard and is this name. The first rule is at a
 -- place.
@@ -65,8 +71,11 @@ pub record IsAliasTable (table : AliasTable) (rules : List Rule) : Type 0 where
 
 -- A table with one more alias behind the others.
 pub record HasMore (old new : AliasTable) (place : ℕ) (pattern name : List ℕ) : Type 0 where
-  pub plain : (x : List ℕ) → map shown_plain (group_of new.plain x) ≡ map shown_plain (group_of old.plain x) ++ plain_alias place pattern name x
-  pub wild : map shown_wild new.wild.items ≡ map shown_wild old.wild.items ++ wild_alias place pattern name
+  pub plain : (x : List ℕ)
+      → map shown_plain (group_of new.plain x)
+      ≡ map shown_plain (group_of old.plain x) ++ plain_alias place pattern name x
+  pub wild : map shown_wild new.wild.items
+      ≡ map shown_wild old.wild.items ++ wild_alias place pattern name
 
 -- The number of aliases before a place, and their names.
 abbrev pub count_before : ℕ → List Plain → ℕ

@@ -1,6 +1,7 @@
 -- The modules that a name is resolved to: the first of six lists that isn't empty. modprobe(8),
 -- modprobe.d(5).
-use Rattle.std.specs.Prelude.{ℕ, ◌+◌, ◌==◌, ◌&&◌, ◌||◌, not, Bool, false, nat_eq, List, [], ◌∷◌, length, filter, filter_map, codes, Option, Some, None, if◌then◌else◌}
+use Rattle.std.specs.Prelude.{ℕ, ◌+◌, ◌==◌, ◌&&◌, ◌||◌, not, Bool, false, nat_eq, List, [], ◌∷◌}
+use Rattle.std.specs.Prelude.{length, filter, filter_map, codes, Option, Some, None, if◌then◌else◌}
 use Rattle.std.specs.List.{list_any, starts_with}
 use Rattle.std.specs.Option.{option_map_or}
 use Rattle.std.specs.Str.{bytes_eq}
@@ -71,7 +72,9 @@ lists rules maps x =
 abbrev pub first_list : ℕ → List (List (List ℕ)) → Found
 first_list number [] = record { list = 0; names = [] }
 first_list number (names ∷ more) =
-    if length names == 0 then first_list (number + 1) more else record { list = number; names = names }
+    if length names == 0
+    then first_list (number + 1) more
+    else record { list = number; names = names }
 
 -- Whether a name is dropped: it is blacklisted, and is from the list of modules' own aliases, or
 -- all lists count.
@@ -93,4 +96,5 @@ found_normal rules maps everywhere x = kept rules everywhere (first_list 1 (list
 -- What is found for a name. If a name has no normal form, all its six lists are empty.
 unfoldable pub found : List Rule → Maps → Bool → List ℕ → Found
 found rules maps everywhere name =
-    option_map_or (found_normal rules maps everywhere) (normal_alias name) (record { list = 0; names = [] })
+    option_map_or (found_normal rules maps everywhere) (normal_alias name)
+    (record { list = 0; names = [] })

@@ -15,7 +15,8 @@ installed_name _ = None
 
 -- The tables have the aliases, the modules that install rules name, and the modules that blacklist
 -- rules name.
-pub record AreTables (aliases : AliasTable) (installed blacklisted : List (List ℕ)) (rules : List Rule) : Type 0 where
+pub record AreTables (aliases : AliasTable) (installed blacklisted : List (List ℕ))
+    (rules : List Rule) : Type 0 where
   pub are_aliases : IsAliasTable aliases rules
   pub are_installed : (name : List ℕ) → is_among installed name ≡ has_install rules name
   pub are_blacklisted : (name : List ℕ) → is_among blacklisted name ≡ is_blacklisted rules name

@@ -1,8 +1,10 @@
 // The aliases of a configuration, in tables.
-ghost use Rattle.std.specs.Prelude.{◌≡◌, ◌≤◌, ◌++◌, ◌∷◌, [], List, length, map, filter_map, IfOk, OnOk, option_map};
+ghost use Rattle.std.specs.Prelude.{◌≡◌, ◌≤◌, ◌++◌, ◌∷◌, [], List, length, map, filter_map, IfOk};
+ghost use Rattle.std.specs.Prelude.{OnOk, option_map};
 ghost use Rattle.modprobe_conf.specs.declared.rule.Rule.{Rule};
 ghost use Rattle.name_lookup.specs.Found.{alias_name};
-ghost use Rattle.name_lookup.specs.Aliases.{IsAliasTable, HasMore, alias_parts, count_before, names_before, shown_plain};
+ghost use Rattle.name_lookup.specs.Aliases.{IsAliasTable, HasMore, alias_parts, count_before};
+ghost use Rattle.name_lookup.specs.Aliases.{names_before, shown_plain};
 
 use crate::groups::NameGroups;
 use crate::wildcards::{WildAlias, split_at_wildcard};
@@ -81,7 +83,8 @@ impl<'a> AliasTable<'a> {
 
     /// Returns the names of all aliases whose pattern matches the name, in the order of the rules.
     pub(crate) fn names(&self, alloc: Global, name: &[u8]) -> Result<Names, AllocError>
-        ensures { (rules : List Rule) → IsAliasTable self.now rules → IfOk result (λ names. names ≡ filter_map (alias_name name.now) rules) }
+        ensures { (rules : List Rule) → IsAliasTable self.now rules
+            → IfOk result (λ names. names ≡ filter_map (alias_name name.now) rules) }
     {
         let mut names = Names::new(alloc);
         let plain = self.plain.of(name);
@@ -104,8 +107,10 @@ fn push_before(
     aliases: &[PlainAlias<'_>],
     place: usize,
 ) -> Result<usize, AllocError>
-    ensures names { OnOk result (names.new ≡ names.old ++ names_before place (map shown_plain aliases.now)) }
-    ensures count { IfOk result (λ count. count ≡ count_before place (map shown_plain aliases.now)) }
+    ensures names { OnOk result
+        (names.new ≡ names.old ++ names_before place (map shown_plain aliases.now)) }
+    ensures count { IfOk result
+        (λ count. count ≡ count_before place (map shown_plain aliases.now)) }
     ensures within { IfOk result (λ count. count ≤ length aliases.now) }
 {
     let count = count_before(aliases, place);

@@ -41,7 +41,9 @@ pub(crate) fn names_left(
     drops: bool,
     dropped: &NameSet<'_>,
 ) -> Result<Names, AllocError>
-    ensures { IfOk result (λ left. left ≡ filter (λ name. not (drops && is_among dropped.now name)) (first_seen names)) }
+    ensures { IfOk result
+        (λ left. left
+        ≡ filter (λ name. not (drops && is_among dropped.now name)) (first_seen names)) }
 {
     if stays(&names, drops, dropped) {
         return Ok(names);
@@ -53,7 +55,9 @@ pub(crate) fn names_left(
 /// Returns whether no name can go: there is at most one, and none is dropped. Most names that are
 /// looked up stand for one.
 fn stays(names: &Names, drops: bool, dropped: &NameSet<'_>) -> bool
-    ensures { result ≡ true → filter (λ name. not (drops && is_among dropped.now name)) (first_seen names.now) ≡ names.now }
+    ensures { result ≡ true
+        → filter (λ name. not (drops && is_among dropped.now name)) (first_seen names.now)
+        ≡ names.now }
 {
     if names.len() > 1 {
         return false;
@@ -82,7 +86,8 @@ fn names_but(
     drops: bool,
     dropped: &NameSet<'_>,
 ) -> Result<Names, AllocError>
-    ensures { IfOk result (λ left. left ≡ filter (λ name. not (drops && is_among dropped.now name)) names.now) }
+    ensures { IfOk result
+        (λ left. left ≡ filter (λ name. not (drops && is_among dropped.now name)) names.now) }
 {
     let mut left = Names::new(alloc);
     for place in 0..names.len() {

@@ -66,7 +66,8 @@ fn push_value<'a, T: Drop>(
     value: T,
 ) -> Result<(), AllocError>
     ensures { OnOk result ((other : List ℕ) → group_of (shown_groups groups.new.entries) other
-        ≡ group_of (shown_groups groups.old.entries) other ++ (if bytes_eq name.now other then value ∷ [] else [])) }
+        ≡ group_of (shown_groups groups.old.entries) other
+        ++ (if bytes_eq name.now other then value ∷ [] else [])) }
 {
     match groups.get_mut(name) {
         Some(group) => group.push(value)?,

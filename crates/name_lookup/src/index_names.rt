@@ -20,7 +20,8 @@ pub(crate) fn names_under(alloc: Global, index: &Index, key: &[u8]) -> Result<Na
 /// Returns the texts of the values of every key that as a pattern matches the name: by rising
 /// priority, then by the bytes of the key, then by place.
 pub(crate) fn names_matching(alloc: Global, index: &Index, name: &[u8]) -> Result<Names, AllocError>
-    ensures { IfOk result (λ names. names ≡ texts (wild_values (contents index.now.nodes) name.now)) }
+    ensures { IfOk result
+        (λ names. names ≡ texts (wild_values (contents index.now.nodes) name.now)) }
 {
     let values = plain::matching(alloc, index, name)?;
     names_of(alloc, &values)

@@ -72,7 +72,8 @@ impl<'a> Lookup<'a> {
         rules: &'a Rules,
         indexes: &'a Indexes,
     ) -> Result<Lookup<'a>, AllocError>
-        ensures { IfOk result (λ lookup. lookup ≡ record { rules = rules.now; indexes = indexes.now }) }
+        ensures { IfOk result
+            (λ lookup. lookup ≡ record { rules = rules.now; indexes = indexes.now }) }
     {
         let aliases = AliasTable::new(alloc, rules)?;
         let installed = installed_names(alloc, rules)?;
@@ -104,7 +105,8 @@ impl<'a> Lookup<'a> {
     /// aliases whose pattern has a wildcard.
     #[tactic(auto, unfolding(crate::specs::Found::found))]
     pub fn find(&self, alloc: Global, name: &Name, use_blacklist: bool) -> Result<Found, AllocError>
-        ensures { IfOk result (λ f. f ≡ found self.now.rules (maps_of self.now.indexes) use_blacklist name.now) }
+        ensures { IfOk result
+            (λ f. f ≡ found self.now.rules (maps_of self.now.indexes) use_blacklist name.now) }
     {
         match normal_alias(alloc, name.as_bytes())? {
             Some(name) => {
@@ -117,7 +119,8 @@ impl<'a> Lookup<'a> {
 
     /// Finds the first list that isn't empty.
     fn first_found(&self, alloc: Global, name: &[u8]) -> Result<Found, AllocError>
-        ensures { IfOk result (λ f. f ≡ first_list 1 (lists self.now.rules (maps_of self.now.indexes) name.now)) }
+        ensures { IfOk result
+            (λ f. f ≡ first_list 1 (lists self.now.rules (maps_of self.now.indexes) name.now)) }
     {
         let names = self.aliases.names(alloc, name)?;
         if !names.is_empty() {
@@ -159,7 +162,9 @@ impl<'a> Lookup<'a> {
 /// Finds the modules of the symbol that a name asks for.
 fn symbol_modules(alloc: Global, name: &[u8], indexes: &Indexes) -> Result<Names, AllocError>
     ensures { IfOk result (λ names. names
-        ≡ (if asks_symbol name.now then texts (values_of (contents indexes.now.symbols.nodes) name.now) else [])) }
+        ≡ (if asks_symbol name.now
+        then texts (values_of (contents indexes.now.symbols.nodes) name.now)
+        else [])) }
 {
     if name.starts_with(b"symbol:".as_slice()) {
         names_under(alloc, &indexes.symbols, name)

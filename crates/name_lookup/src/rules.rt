@@ -10,7 +10,8 @@ use std::alloc::{AllocError, Global};
 
 /// Returns the names that install rules have.
 pub(crate) fn installed_names(alloc: Global, rules: &Rules) -> Result<NameSet<'_>, AllocError>
-    ensures { IfOk result (λ names. (name : List ℕ) → is_among names name ≡ has_install rules.now name) }
+    ensures { IfOk result
+        (λ names. (name : List ℕ) → is_among names name ≡ has_install rules.now name) }
 {
     let mut names = NameSet::new(alloc);
     for rule in rules.as_slice() {
@@ -37,7 +38,8 @@ fn installed_name(rule: &Rule) -> Option<&[u8]>
 
 /// Returns the names that blacklist rules have.
 pub(crate) fn blacklisted_names(alloc: Global, rules: &Rules) -> Result<NameSet<'_>, AllocError>
-    ensures { IfOk result (λ names. (name : List ℕ) → is_among names name ≡ is_blacklisted rules.now name) }
+    ensures { IfOk result
+        (λ names. (name : List ℕ) → is_among names name ≡ is_blacklisted rules.now name) }
 {
     let mut names = NameSet::new(alloc);
     for rule in rules.as_slice() {

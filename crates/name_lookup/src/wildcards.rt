@@ -29,7 +29,8 @@ fn is_wildcard(byte: u8) -> bool
 /// Splits a pattern at its first wildcard, if it has one: what comes before it, and the pattern
 /// from there on.
 pub(crate) fn split_at_wildcard(pattern: &[u8]) -> Option<(&[u8], &[u8])>
-    ensures { MatchOption result (list_any is_wildcard pattern.now ≡ false) (λ parts. IsSplit pattern.now parts.0.now parts.1.now) }
+    ensures { MatchOption result (list_any is_wildcard pattern.now ≡ false)
+        (λ parts. IsSplit pattern.now parts.0.now parts.1.now) }
 {
     for (place, byte) in pattern.iter().enumerate() {
         if is_wildcard(*byte) {

@@ -1,4 +1,5 @@
-ghost use Rattle.std.specs.Prelude.{◌≡◌, ◌<◌, ◌+◌, ◌-◌, ◌^◌, ℕ, List, [], ◌∷◌, ◌++◌, Option, Some, None, OnOk, OnErr, IfOk, option_copied, if◌then◌else◌};
+ghost use Rattle.std.specs.Prelude.{◌≡◌, ◌<◌, ◌+◌, ◌-◌, ◌^◌, ℕ, List, [], ◌∷◌, ◌++◌, Option, Some};
+ghost use Rattle.std.specs.Prelude.{None, OnOk, OnErr, IfOk, option_copied, if◌then◌else◌};
 ghost use Rattle.std.specs.Option.{option_or};
 ghost use Rattle.std.specs.Str.{bytes_eq};
 ghost use Rattle.indexmap.specs.IndexMap.{get_by, IsUnchanged};
@@ -24,7 +25,8 @@ impl<'a> Model for NameTable<'a> {
 
     ghost Value = { Table };
 
-    ghost view = { λ t. record { entries = map (λ e. (e.0.bytes.now, e.1)) t.places.entries; count = t.count } };
+    ghost view = { λ t. record
+        { entries = map (λ e. (e.0.bytes.now, e.1)) t.places.entries; count = t.count } };
 }
 
 // Inserts a name with its place. A name that is already there gets back its old place. So a new
@@ -35,7 +37,8 @@ fn keep_first<'a>(
     place: u32,
 ) -> Result<(), AllocError>
     ensures ok { OnOk result ((other : List ℕ) → get_by (λ k. bytes_eq other k.bytes.now) places.new
-        ≡ option_or (get_by (λ k. bytes_eq other k.bytes.now) places.old) (if bytes_eq name.now other then Some place else None)) }
+        ≡ option_or (get_by (λ k. bytes_eq other k.bytes.now) places.old)
+        (if bytes_eq name.now other then Some place else None)) }
     ensures err { OnErr result (IsUnchanged places.old places.new) }
 {
     let key = NameKey::new(name);

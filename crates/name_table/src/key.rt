@@ -47,7 +47,8 @@ impl<'a> Eq for NameKey<'a> {
 impl<'a> Hash for NameKey<'a> {
     ghost hash_input = { λ k. k.bytes.now ∷ [] };
 
-    ghost respects_eq = { λ x y same. ap (λ bytes. bytes ∷ []) ((bytes_decides x.bytes.now y.bytes.now).0 same) };
+    ghost respects_eq = { λ x y same. ap (λ bytes. bytes ∷ [])
+        ((bytes_decides x.bytes.now y.bytes.now).0 same) };
 
     fn hash<H: Hasher>(&self, state: &mut H) {
         state.write(self.bytes);
@@ -93,7 +94,8 @@ impl<'a> Eq for OwnedNameKey<'a> {
 impl<'a> Hash for OwnedNameKey<'a> {
     ghost hash_input = { λ k. name_of k ∷ [] };
 
-    ghost respects_eq = { λ x y same. ap (λ bytes. bytes ∷ []) ((bytes_decides (name_of x) (name_of y)).0 same) };
+    ghost respects_eq = { λ x y same. ap (λ bytes. bytes ∷ [])
+        ((bytes_decides (name_of x) (name_of y)).0 same) };
 
     fn hash<H: Hasher>(&self, state: &mut H) {
         state.write(self.bytes());

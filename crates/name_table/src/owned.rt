@@ -1,4 +1,5 @@
-ghost use Rattle.std.specs.Prelude.{◌≡◌, ◌<◌, ◌+◌, ◌-◌, ◌^◌, ℕ, List, [], ◌∷◌, ◌++◌, Option, Some, None, OnOk, OnErr, option_copied, if◌then◌else◌};
+ghost use Rattle.std.specs.Prelude.{◌≡◌, ◌<◌, ◌+◌, ◌-◌, ◌^◌, ℕ, List, [], ◌∷◌, ◌++◌, Option, Some};
+ghost use Rattle.std.specs.Prelude.{None, OnOk, OnErr, option_copied, if◌then◌else◌};
 ghost use Rattle.std.specs.Option.{option_or};
 ghost use Rattle.std.specs.Str.{bytes_eq};
 ghost use Rattle.indexmap.specs.IndexMap.{get_by, IsUnchanged};
@@ -26,7 +27,8 @@ impl Model for OwnedNameTable {
 
     ghost Value = { Table };
 
-    ghost view = { λ t. record { entries = map (λ e. (name_of e.0, e.1)) t.places.entries; count = t.count } };
+    ghost view = { λ t. record
+        { entries = map (λ e. (name_of e.0, e.1)) t.places.entries; count = t.count } };
 }
 
 // Inserts a copy of a name with its place, unless the name is already there.
@@ -37,7 +39,8 @@ fn keep_first(
     place: u32,
 ) -> Result<(), AllocError>
     ensures ok { OnOk result ((other : List ℕ) → get_by (λ k. bytes_eq other (name_of k)) places.new
-        ≡ option_or (get_by (λ k. bytes_eq other (name_of k)) places.old) (if bytes_eq name.now other then Some place else None)) }
+        ≡ option_or (get_by (λ k. bytes_eq other (name_of k)) places.old)
+        (if bytes_eq name.now other then Some place else None)) }
     ensures err { OnErr result (IsUnchanged places.old places.new) }
 {
     if places.get(&OwnedNameKey::Asked(name)).is_none() {

@@ -1,4 +1,5 @@
-ghost use Rattle.std.specs.Prelude.{◌≡◌, ◌++◌, ◌∷◌, ◌||◌, ℕ, List, [], length, OnOk, OnErr, slice_get, option_map};
+ghost use Rattle.std.specs.Prelude.{◌≡◌, ◌++◌, ◌∷◌, ◌||◌, ℕ, List, [], length, OnOk, OnErr};
+ghost use Rattle.std.specs.Prelude.{slice_get, option_map};
 ghost use Rattle.std.specs.Str.{bytes_eq};
 ghost use Rattle.name_table.specs.FirstSeen.{first_seen, is_among, with_name};
 
@@ -39,7 +40,9 @@ impl<'a> NameSet<'a> {
         ensures ok { OnOk result (self.new ≡ with_name self.old name.now) }
         ensures seen { OnOk result ((names : List (List ℕ)) → self.old ≡ first_seen names →
             self.new ≡ first_seen (names ++ name.now ∷ [])) }
-        ensures among { OnOk result ((other : List ℕ) → is_among self.new other ≡ (is_among self.old other || bytes_eq other name.now)) }
+        ensures among { OnOk result
+            ((other : List ℕ)
+            → is_among self.new other ≡ (is_among self.old other || bytes_eq other name.now)) }
         ensures err { OnErr result (self.new ≡ self.old) }
     {
         self.names.insert(NameKey::new(name))?;

@@ -1,5 +1,6 @@
 -- What the parts of an image with its parameters make together.
-use Rattle.std.proofs.Common.{◌≡◌, ◌≤◌, ◌<◌, ◌^◌, ◌∙◌, ℕ, List, [], ◌∷◌, Option, Some, None, refl, sym, ap, subst, arith, length, map}
+use Rattle.std.proofs.Common.{◌≡◌, ◌≤◌, ◌<◌, ◌^◌, ◌∙◌, ℕ, List, [], ◌∷◌, Option, Some, None, refl}
+use Rattle.std.proofs.Common.{sym, ap, subst, arith, length, map}
 use Rattle.std.specs.Prelude.{All}
 use Rattle.std.proofs.lemmas.List.{length-map}
 use Rattle.std.proofs.lemmas.List.FromFn.{length-map-range_with_len}
@@ -8,7 +9,8 @@ use Rattle.km_names.specs.First.{first}
 use Rattle.km_names.specs.Limit.{file_limit}
 use Rattle.param_apply.specs.declared.fault.ParamFault.{ParamFault}
 use Rattle.param_apply.specs.declared.table.ParamTable.{ParamTable}
-use Rattle.param_apply.specs.Applied.{count_of, finished, named_count, param_fault, piece, with_pieces, words_fault}
+use Rattle.param_apply.specs.Applied.{count_of, finished, named_count, param_fault, piece}
+use Rattle.param_apply.specs.Applied.{with_pieces, words_fault}
 use Rattle.param_apply.specs.Table.{Entry, entries, entry, entry_count, table_fault, table_of}
 use Rattle.param_apply.specs.Words.{Parameter, Setting, parameter, parameters, settings, type_texts}
 use Rattle.param_apply.proofs.WordLemmas.{settings-within}
@@ -18,38 +20,65 @@ only None = refl
 only (Some fault) = refl
 
 -- The parameters, by the entries that were read.
-pub params-are : (o : FileObject) (base : ℕ) (image : List ℕ) (t : ParamTable) (es : List Entry) (params : List Parameter) → t ≡ table_of o → es ≡ entries image base t → params ≡ map (parameter (type_texts o)) es → params ≡ parameters o base image
+pub params-are : (o : FileObject) (base : ℕ) (image : List ℕ) (t : ParamTable) (es : List Entry)
+    (params : List Parameter)
+    → t ≡ table_of o → es ≡ entries image base t → params ≡ map (parameter (type_texts o)) es
+    → params ≡ parameters o base image
 unfolding parameters
-params-are o base image t es params is is_e is_p = is_p ∙ ap (map (parameter (type_texts o))) (is_e ∙ ap (entries image base) is)
+params-are o base image t es params is is_e is_p =
+    is_p ∙ ap (map (parameter (type_texts o))) (is_e ∙ ap (entries image base) is)
 
 -- There are fewer than 2^32, since no file has so many.
-pub params-few : (o : FileObject) (base : ℕ) (image : List ℕ) (t : ParamTable) (es : List Entry) (params : List Parameter) → es ≡ entries image base t → params ≡ map (parameter (type_texts o)) es → t.size ≤ file_limit → length params < 2 ^ 32
+pub params-few : (o : FileObject) (base : ℕ) (image : List ℕ) (t : ParamTable) (es : List Entry)
+    (params : List Parameter)
+    → es ≡ entries image base t → params ≡ map (parameter (type_texts o)) es → t.size ≤ file_limit
+    → length params < 2 ^ 32
 unfolding entries
 params-few o base image t es params is_e is_p short =
-    let long : length params ≡ entry_count t = ap length is_p ∙ length-map es (parameter (type_texts o)) ∙ ap length is_e ∙ length-map-range_with_len (entry image base t) 0 (entry_count t) in
+    let long : length params ≡ entry_count t
+    = ap length is_p ∙ length-map es (parameter (type_texts o)) ∙ ap length is_e
+    ∙ length-map-range_with_len (entry image base t) 0 (entry_count t) in
     omega (arith, long, short)
 
-pub numbers-within : (params : List Parameter) (ss : List Setting) (options : List ℕ) → ss ≡ settings params options → All (λ s. s.number < length params) ss
-numbers-within params ss options is = subst (All (λ (s : Setting). s.number < length params)) (sym is) (settings-within params options)
+pub numbers-within : (params : List Parameter) (ss : List Setting) (options : List ℕ)
+    → ss ≡ settings params options → All (λ s. s.number < length params) ss
+numbers-within params ss options is =
+    subst (All (λ (s : Setting). s.number < length params)) (sym is)
+    (settings-within params options)
 
 -- What is wrong with the table is wrong with the whole.
-pub fault-table : (o : FileObject) (base : ℕ) (image options : List ℕ) (t : ParamTable) (fault : ParamFault) → t ≡ table_of o → table_fault image base t ≡ Some fault → param_fault o base image options ≡ Some fault
+pub fault-table : (o : FileObject) (base : ℕ) (image options : List ℕ) (t : ParamTable)
+    (fault : ParamFault)
+    → t ≡ table_of o → table_fault image base t ≡ Some fault
+    → param_fault o base image options ≡ Some fault
 unfolding param_fault
 fault-table o base image options t fault is failed =
-    let here : table_fault image base (table_of o) ≡ Some fault = ap (table_fault image base) (sym is) ∙ failed in
+    let here : table_fault image base (table_of o) ≡ Some fault
+    = ap (table_fault image base) (sym is) ∙ failed in
     rw here refl
 
 -- Where the table is right, the words decide.
-pub fault-words : (o : FileObject) (base : ℕ) (image options : List ℕ) (t : ParamTable) (params : List Parameter) (ss : List Setting) → t ≡ table_of o → params ≡ parameters o base image → ss ≡ settings params options → table_fault image base t ≡ None → param_fault o base image options ≡ words_fault o params (length image) ss
+pub fault-words : (o : FileObject) (base : ℕ) (image options : List ℕ) (t : ParamTable)
+    (params : List Parameter) (ss : List Setting)
+    → t ≡ table_of o → params ≡ parameters o base image → ss ≡ settings params options
+    → table_fault image base t ≡ None
+    → param_fault o base image options ≡ words_fault o params (length image) ss
 unfolding param_fault
 fault-words o base image options t params ss is is_p is_s passed =
-    let here : table_fault image base (table_of o) ≡ None = ap (table_fault image base) (sym is) ∙ passed in
+    let here : table_fault image base (table_of o) ≡ None
+    = ap (table_fault image base) (sym is) ∙ passed in
     rw (here, ← is_p, ← is_s) (only (words_fault o params (length image) ss))
 
-pub finished-is : (o : FileObject) (base : ℕ) (image options : List ℕ) (params : List Parameter) (ss : List Setting) → params ≡ parameters o base image → ss ≡ settings params options → finished o base image options ≡ with_pieces image (map (piece params) ss)
+pub finished-is : (o : FileObject) (base : ℕ) (image options : List ℕ) (params : List Parameter)
+    (ss : List Setting)
+    → params ≡ parameters o base image → ss ≡ settings params options
+    → finished o base image options ≡ with_pieces image (map (piece params) ss)
 unfolding finished
 finished-is o base image options params ss is_p is_s = rw (← is_p, ← is_s) refl
 
-pub count-is : (o : FileObject) (base : ℕ) (image options : List ℕ) (params : List Parameter) (ss : List Setting) → params ≡ parameters o base image → ss ≡ settings params options → count_of o base image options ≡ named_count params ss
+pub count-is : (o : FileObject) (base : ℕ) (image options : List ℕ) (params : List Parameter)
+    (ss : List Setting)
+    → params ≡ parameters o base image → ss ≡ settings params options
+    → count_of o base image options ≡ named_count params ss
 unfolding count_of
 count-is o base image options params ss is_p is_s = rw (← is_p, ← is_s) refl

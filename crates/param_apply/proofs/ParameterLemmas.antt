@@ -1,5 +1,6 @@
 -- The texts of a module's section `.modinfo`.
-use Rattle.std.proofs.Common.{◌≡◌, ◌<◌, ◌∙◌, ℕ, true, List, [], Some, None, refl, sym, length, inl, inr}
+use Rattle.std.proofs.Common.{◌≡◌, ◌<◌, ◌∙◌, ℕ, true, List, [], Some, None, refl, sym, length, inl}
+use Rattle.std.proofs.Common.{inr}
 use Rattle.std.specs.Prelude.{codes, slice_get, IfSome, ◌==◌}
 use Rattle.std.specs.List.{position}
 use Rattle.std.specs.Str.{bytes_eq}
@@ -17,7 +18,9 @@ no-bytes : (file : List ℕ) (s : Section) → (s.kind == SHT_NOBITS) ≡ true �
 unfolding content
 no-bytes file s is = let kind : s.kind ≡ 8 = eqb-true s.kind 8 is in rw kind refl
 
-modinfo-at : (o : FileObject) (i : ℕ) (s : Section) → position (λ t. bytes_eq t.name (codes ".modinfo")) o.sections ≡ Some i → slice_get o.sections i ≡ Some s → bytes_of o.file s ≡ modinfo_bytes o
+modinfo-at : (o : FileObject) (i : ℕ) (s : Section)
+    → position (λ t. bytes_eq t.name (codes ".modinfo")) o.sections ≡ Some i
+    → slice_get o.sections i ≡ Some s → bytes_of o.file s ≡ modinfo_bytes o
 unfolding modinfo_bytes named_bytes named_section
 modinfo-at o i s first is =
     elim (cases_Bool (s.kind == SHT_NOBITS)) [
@@ -25,12 +28,15 @@ modinfo-at o i s first is =
       | inr some ↦ sym (rw (first, is, some) refl)
     ]
 
-pub modinfo-some : (o : FileObject) (i : ℕ) (bytes : List ℕ) → position (λ t. bytes_eq t.name (codes ".modinfo")) o.sections ≡ Some i → i < length o.sections → IfSome (slice_get o.sections i) (λ s. bytes ≡ bytes_of o.file s) → bytes ≡ modinfo_bytes o
+pub modinfo-some : (o : FileObject) (i : ℕ) (bytes : List ℕ)
+    → position (λ t. bytes_eq t.name (codes ".modinfo")) o.sections ≡ Some i → i < length o.sections
+    → IfSome (slice_get o.sections i) (λ s. bytes ≡ bytes_of o.file s) → bytes ≡ modinfo_bytes o
 modinfo-some o i bytes first within are =
     let s = item-at o.sections i within in
     let here : bytes ≡ bytes_of o.file s.0 = rw s.1 at are in
     here ∙ modinfo-at o i s.0 first s.1
 
-pub modinfo-none : (o : FileObject) → position (λ t. bytes_eq t.name (codes ".modinfo")) o.sections ≡ None → [] ≡ modinfo_bytes o
+pub modinfo-none : (o : FileObject)
+    → position (λ t. bytes_eq t.name (codes ".modinfo")) o.sections ≡ None → [] ≡ modinfo_bytes o
 unfolding modinfo_bytes named_bytes named_section
 modinfo-none o first = sym (rw first refl)

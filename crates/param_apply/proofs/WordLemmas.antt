@@ -1,7 +1,10 @@
 -- The words of a text of options, from its first piece on.
-use Rattle.std.proofs.Common.{◌≡◌, ℕ, ◌<◌, Bool, true, false, List, [], ◌∷◌, ◌++◌, Option, Some, None, length, cond, eqb, refl, sym, ap, ◌∙◌, arith, append-nil, append_assoc, inl, inr}
+use Rattle.std.proofs.Common.{◌≡◌, ℕ, ◌<◌, Bool, true, false, List, [], ◌∷◌, ◌++◌, Option, Some}
+use Rattle.std.proofs.Common.{None, length, cond, eqb, refl, sym, ap, ◌∙◌, arith, append-nil}
+use Rattle.std.proofs.Common.{append_assoc, inl, inr}
 use Rattle.std.specs.Prelude.{All, filter, take_while, codes, option_map, not}
-use Rattle.std.specs.List.{slice_split, before_first, after_first, position_or_len, filter_map, cons_option}
+use Rattle.std.specs.List.{slice_split, before_first, after_first, position_or_len, filter_map}
+use Rattle.std.specs.List.{cons_option}
 use Rattle.std.specs.Option.{option_to_list}
 use Rattle.std.specs.Str.{bytes_eq}
 use Rattle.std.proofs.lemmas.List.{take_all, drop_all}
@@ -11,27 +14,35 @@ use Rattle.std.proofs.lemmas.List.Elements.{All-from_get_or, All-cons, All-nil, 
 use Rattle.std.proofs.lemmas.List.Quantifiers.{position-Some}
 use Rattle.std.proofs.lemmas.Bool.{cases_lt}
 use Rattle.modinfo_fields.specs.Fields.{is_text}
-use Rattle.param_apply.specs.Words.{Parameter, Setting, is_same, number_named, setting, settings, stating, words, word_name, word_text}
+use Rattle.param_apply.specs.Words.{Parameter, Setting, is_same, number_named, setting, settings}
+use Rattle.param_apply.specs.Words.{stating, words, word_name, word_text}
 
 abbrev is_space : ℕ → Bool
 is_space b = eqb b 32
 
-piece_first : (piece : List ℕ) (pieces : List (List ℕ)) → filter is_text (piece ∷ pieces) ≡ filter is_text (piece ∷ []) ++ filter is_text pieces
+piece_first : (piece : List ℕ) (pieces : List (List ℕ))
+    → filter is_text (piece ∷ pieces) ≡ filter is_text (piece ∷ []) ++ filter is_text pieces
 piece_first [] pieces = refl
 piece_first (b ∷ bs) pieces = refl
 
 -- The words of a text: its first piece, if it has a byte, and the words after it.
-words-first : (text : List ℕ) → words text ≡ filter is_text (before_first is_space text ∷ []) ++ words (after_first is_space text)
+words-first : (text : List ℕ)
+    → words text
+    ≡ filter is_text (before_first is_space text ∷ []) ++ words (after_first is_space text)
 words-first text = elim (cases_lt (position_or_len is_space text) (length text)) [
-  | inl found ↦ ap (filter is_text) (slice_split_first is_space text 0 found) ∙ piece_first (before_first is_space text) (slice_split is_space (after_first is_space text))
+  | inl found ↦ ap (filter is_text) (slice_split_first is_space text 0 found)
+      ∙ piece_first (before_first is_space text) (slice_split is_space (after_first is_space text))
   | inr past ↦
-      let none : All (λ b. is_space b ≡ false) text = All-from_get_or (λ b. is_space b ≡ false) text 0 (λ j l. fails_before_first is_space text j 0 (omega arith)) in
+      let none : All (λ b. is_space b ≡ false) text
+      = All-from_get_or (λ b. is_space b ≡ false) text 0
+      (λ j l. fails_before_first is_space text j 0 (omega arith)) in
       let whole : before_first is_space text ≡ text = take_all _ text past in
       let nothing : after_first is_space text ≡ [] = drop_all _ text (omega arith) in
       ap (filter is_text) (slice_split_none is_space text none)
       ∙ sym (append-nil (filter is_text (text ∷ [])))
       ∙ ap (λ b. filter is_text (b ∷ []) ++ []) (sym whole)
-      ∙ ap (λ rest. filter is_text (before_first is_space text ∷ []) ++ filter is_text (slice_split is_space rest)) (sym nothing)
+      ∙ ap (λ rest. filter is_text (before_first is_space text ∷ [])
+      ++ filter is_text (slice_split is_space rest)) (sym nothing)
 ]
 
 -- A word that isn't `--`.
@@ -40,73 +51,114 @@ goes_on word = not (bytes_eq word (codes "--"))
 
 -- What the words up to `--` state, with a piece before them.
 abbrev stated : List Parameter → List (List ℕ) → List Setting
-stated params ws = filter_map (setting params) (take_while (λ word. not (bytes_eq word (codes "--"))) ws)
+stated params ws =
+    filter_map (setting params) (take_while (λ word. not (bytes_eq word (codes "--"))) ws)
 
-ended : (params : List Parameter) (piece : List ℕ) (ws : List (List ℕ)) → bytes_eq piece (codes "--") ≡ true → stated params (filter is_text (piece ∷ []) ++ ws) ≡ []
+ended : (params : List Parameter) (piece : List ℕ) (ws : List (List ℕ))
+    → bytes_eq piece (codes "--") ≡ true → stated params (filter is_text (piece ∷ []) ++ ws) ≡ []
 ended params [] ws is = cc
 ended params (b ∷ bs) ws is =
-    let none : take_while goes_on ((b ∷ bs) ∷ ws) ≡ [] = take_while-cons goes_on (b ∷ bs) ws ∙ ap (λ (t : Bool). cond (not t) ((b ∷ bs) ∷ take_while goes_on ws) []) is in
+    let none : take_while goes_on ((b ∷ bs) ∷ ws) ≡ []
+    = take_while-cons goes_on (b ∷ bs) ws
+    ∙ ap (λ (t : Bool). cond (not t) ((b ∷ bs) ∷ take_while goes_on ws) []) is in
     ap (filter_map (setting params)) none
 
-going : (params : List Parameter) (piece : List ℕ) (ws : List (List ℕ)) → bytes_eq piece (codes "--") ≡ false → stated params (filter is_text (piece ∷ []) ++ ws) ≡ filter_map (setting params) (filter is_text (piece ∷ [])) ++ stated params ws
+going : (params : List Parameter) (piece : List ℕ) (ws : List (List ℕ))
+    → bytes_eq piece (codes "--") ≡ false
+    → stated params (filter is_text (piece ∷ []) ++ ws)
+    ≡ filter_map (setting params) (filter is_text (piece ∷ [])) ++ stated params ws
 going params [] ws is = refl
 going params (b ∷ bs) ws is =
-    let more : take_while goes_on ((b ∷ bs) ∷ ws) ≡ (b ∷ bs) ∷ take_while goes_on ws = take_while-cons goes_on (b ∷ bs) ws ∙ ap (λ (t : Bool). cond (not t) ((b ∷ bs) ∷ take_while goes_on ws) []) is in
+    let more : take_while goes_on ((b ∷ bs) ∷ ws) ≡ (b ∷ bs) ∷ take_while goes_on ws
+    = take_while-cons goes_on (b ∷ bs) ws
+    ∙ ap (λ (t : Bool). cond (not t) ((b ∷ bs) ∷ take_while goes_on ws) []) is in
     ap (filter_map (setting params)) more
-    ∙ filter_map-append (setting params) ((b ∷ bs) ∷ []) (take_while (λ word. not (bytes_eq word (codes "--"))) ws)
+    ∙ filter_map-append (setting params) ((b ∷ bs) ∷ [])
+    (take_while (λ word. not (bytes_eq word (codes "--"))) ws)
 
 -- A text that begins with the word `--` states nothing.
-pub settings-ended : (params : List Parameter) (text piece : List ℕ) → piece ≡ before_first is_space text → bytes_eq piece (codes "--") ≡ true → settings params text ≡ []
+pub settings-ended : (params : List Parameter) (text piece : List ℕ)
+    → piece ≡ before_first is_space text → bytes_eq piece (codes "--") ≡ true
+    → settings params text ≡ []
 unfolding settings
 settings-ended params text piece is end =
-    ap (stated params) (words-first text ∙ ap (λ b. filter is_text (b ∷ []) ++ words (after_first is_space text)) (sym is))
+    ap (stated params)
+    (words-first text
+    ∙ ap (λ b. filter is_text (b ∷ []) ++ words (after_first is_space text)) (sym is))
     ∙ ended params piece (words (after_first is_space text)) end
 
 -- What was read and what the rest states, a piece later.
-pub setting_taken : (params : List Parameter) (options rest piece after : List ℕ) (list more : List Setting) → list ++ settings params rest ≡ settings params options → piece ≡ before_first is_space rest → after ≡ after_first is_space rest → bytes_eq piece (codes "--") ≡ false → more ≡ filter_map (setting params) (filter is_text (piece ∷ [])) → (list ++ more) ++ settings params after ≡ settings params options
+pub setting_taken : (params : List Parameter) (options rest piece after : List ℕ)
+    (list more : List Setting)
+    → list ++ settings params rest ≡ settings params options → piece ≡ before_first is_space rest
+    → after ≡ after_first is_space rest → bytes_eq piece (codes "--") ≡ false
+    → more ≡ filter_map (setting params) (filter is_text (piece ∷ []))
+    → (list ++ more) ++ settings params after ≡ settings params options
 unfolding settings
 setting_taken params options rest piece after list more inv before then on is =
-    let here : settings params rest ≡ filter_map (setting params) (filter is_text (piece ∷ [])) ++ settings params after =
-    ap (stated params) (words-first rest ∙ ap (λ b. filter is_text (b ∷ []) ++ words (after_first is_space rest)) (sym before) ∙ ap (λ a. filter is_text (piece ∷ []) ++ words a) (sym then))
+    let here : settings params rest
+    ≡ filter_map (setting params) (filter is_text (piece ∷ [])) ++ settings params after
+    =
+    ap (stated params)
+    (words-first rest
+    ∙ ap (λ b. filter is_text (b ∷ []) ++ words (after_first is_space rest)) (sym before)
+    ∙ ap (λ a. filter is_text (piece ∷ []) ++ words a) (sym then))
     ∙ going params piece (words after) on in
-    append_assoc list more (settings params after) ∙ ap (λ m. list ++ (m ++ settings params after)) is ∙ ap (λ l. list ++ l) (sym here) ∙ inv
+    append_assoc list more (settings params after)
+    ∙ ap (λ m. list ++ (m ++ settings params after)) is ∙ ap (λ l. list ++ l) (sym here) ∙ inv
 
 pub settings-nil : (params : List Parameter) → settings params [] ≡ []
 unfolding settings
 settings-nil params = refl
 
 -- Words name parameters that there are.
-within-named : (params : List Parameter) (word : List ℕ) (s : Setting) (o : Option ℕ) → number_named params (word_name word) ≡ o → option_map (λ k. record { number = k; text = word_text word }) o ≡ Some s → s.number < length params
+within-named : (params : List Parameter) (word : List ℕ) (s : Setting) (o : Option ℕ)
+    → number_named params (word_name word) ≡ o
+    → option_map (λ k. record { number = k; text = word_text word }) o ≡ Some s
+    → s.number < length params
 within-named params word s None named is = cc
 within-named params word s (Some k) named is =
-    let inside = (position-Some (λ (p : Parameter). is_same p.name (word_name word)) params k (record { name = []; at = 0; kind = None }) named).0 in
+    let inside
+    = (position-Some (λ (p : Parameter). is_same p.name (word_name word)) params k
+    (record { name = []; at = 0; kind = None }) named).0 in
     let e : k ≡ s.number = cc in
     omega arith
 
-within-cons : (params : List Parameter) (o : Option Setting) (ss : List Setting) → ((s : Setting) → o ≡ Some s → s.number < length params) → All (λ s. s.number < length params) ss → All (λ s. s.number < length params) (option_to_list o ++ ss)
+within-cons : (params : List Parameter) (o : Option Setting) (ss : List Setting)
+    → ((s : Setting) → o ≡ Some s → s.number < length params)
+    → All (λ s. s.number < length params) ss
+    → All (λ s. s.number < length params) (option_to_list o ++ ss)
 within-cons params None ss here later = later
-within-cons params (Some s) ss here later = All-cons (λ (x : Setting). x.number < length params) s ss (here s refl) later
+within-cons params (Some s) ss here later =
+    All-cons (λ (x : Setting). x.number < length params) s ss (here s refl) later
 
 cons-is : {X : Type 0} (o : Option X) (xs : List X) → cons_option o xs ≡ option_to_list o ++ xs
 cons-is None xs = refl
 cons-is (Some x) xs = refl
 
-within-words : (params : List Parameter) (ws : List (List ℕ)) → All (λ s. s.number < length params) (filter_map (setting params) ws)
+within-words : (params : List Parameter) (ws : List (List ℕ))
+    → All (λ s. s.number < length params) (filter_map (setting params) ws)
 within-words params [] = All-nil (λ (s : Setting). s.number < length params)
 within-words params (w ∷ ws) =
     rw (cons-is (setting params w) (filter_map (setting params) ws))
-    (within-cons params (setting params w) (filter_map (setting params) ws) (λ s is. within-named params w s (number_named params (word_name w)) refl is) (within-words params ws))
+    (within-cons params (setting params w) (filter_map (setting params) ws)
+    (λ s is. within-named params w s (number_named params (word_name w)) refl is)
+    (within-words params ws))
 
-pub settings-within : (params : List Parameter) (options : List ℕ) → All (λ (s : Setting). s.number < length params) (settings params options)
+pub settings-within : (params : List Parameter) (options : List ℕ)
+    → All (λ (s : Setting). s.number < length params) (settings params options)
 unfolding settings
 settings-within params options = within-words params (stating options)
 
 -- What a piece between spaces states.
-pub piece-empty : (params : List Parameter) (piece : List ℕ) → length piece ≡ 0 → [] ≡ filter_map (setting params) (filter is_text (piece ∷ []))
+pub piece-empty : (params : List Parameter) (piece : List ℕ) → length piece ≡ 0
+    → [] ≡ filter_map (setting params) (filter is_text (piece ∷ []))
 piece-empty params [] empty = refl
 piece-empty params (b ∷ bs) empty = absurd (omega (arith, empty))
 
-pub piece-states : (params : List Parameter) (piece : List ℕ) (o : Option Setting) → (length piece ≡ 0 → ⊥) → setting params piece ≡ o → option_to_list o ≡ filter_map (setting params) (filter is_text (piece ∷ []))
+pub piece-states : (params : List Parameter) (piece : List ℕ) (o : Option Setting)
+    → (length piece ≡ 0 → ⊥) → setting params piece ≡ o
+    → option_to_list o ≡ filter_map (setting params) (filter is_text (piece ∷ []))
 piece-states params [] o some is = absurd (some refl)
 piece-states params (b ∷ bs) None some is = rw is refl
 piece-states params (b ∷ bs) (Some s) some is = rw is refl

@@ -3,7 +3,8 @@
 use Rattle.std.specs.Prelude.{ℕ, List, ◌++◌, codes}
 use Rattle.std.specs.Fmt.{decimal}
 use Rattle.param_apply.specs.declared.fault.ParamFault.{ParamFault}
-use Rattle.param_apply.specs.declared.fault.ParamFault.TheVariants.{BadParamTable, UnknownParamType, BadValue, BadParamPlace, Memory}
+use Rattle.param_apply.specs.declared.fault.ParamFault.TheVariants.{BadParamTable, UnknownParamType}
+use Rattle.param_apply.specs.declared.fault.ParamFault.TheVariants.{BadValue, BadParamPlace, Memory}
 
 -- The text of a fault of parameters.
 abbrev pub param_fault_text : ParamFault → List ℕ

@@ -1,7 +1,9 @@
 -- Numbers and truth values as options state them. The forms are the ones of the kernel's kstrtoull
 -- and kstrtobool (lib/kstrtox.c). A number has to end where its digits do, and begins with at most
 -- one sign, as there.
-use Rattle.std.specs.Prelude.{ℕ, ◌+◌, ◌-◌, ◌/◌, ◌%◌, ◌^◌, ◌==◌, ◌&&◌, ◌||◌, nat_lt, nat_eq, not, Bool, if◌then◌else◌, List, length, drop, codes, Option, Some, None, option_map}
+use Rattle.std.specs.Prelude.{ℕ, ◌+◌, ◌-◌, ◌/◌, ◌%◌, ◌^◌, ◌==◌, ◌&&◌, ◌||◌, nat_lt, nat_eq, not}
+use Rattle.std.specs.Prelude.{Bool, if◌then◌else◌, List, length, drop, codes, Option, Some, None}
+use Rattle.std.specs.Prelude.{option_map}
 use Rattle.std.specs.List.{list_all, starts_with}
 use Rattle.std.specs.Char.{is_digit}
 use Rattle.std.specs.Str.{bytes_eq}
@@ -35,7 +37,9 @@ below limit (Some n) = if nat_lt n limit then Some n else None
 -- The number that a text states in one or more digits of a radix, the highest digit first.
 unfoldable pub digits : ℕ → List ℕ → Option ℕ
 digits radix text =
-    if not (length text == 0) && list_all (λ b. is_digit b radix) text then Some (digits_value radix text) else None
+    if not (length text == 0) && list_all (λ b. is_digit b radix) text
+    then Some (digits_value radix text)
+    else None
 
 -- Whether a text begins as a number in hexadecimal does: with `0x` or `0X`.
 abbrev pub is_hexadecimal : List ℕ → Bool
@@ -60,23 +64,33 @@ unsigned w text = below (numbers_in w) (positive text)
 
 -- A number below zero, or `-0`, by what follows its `-`, in two's complement.
 unfoldable pub negative : Width → List ℕ → Option ℕ
-negative w text = option_map (λ n. (numbers_in w - n) % numbers_in w) (below (numbers_in w / 2 + 1) (magnitude text))
+negative w text =
+    option_map (λ n. (numbers_in w - n) % numbers_in w)
+    (below (numbers_in w / 2 + 1) (magnitude text))
 
 -- A number of a signed type of this width, in two's complement.
 unfoldable pub signed : Width → List ℕ → Option ℕ
 signed w text =
-    if begins text (codes "-") then negative w (drop 1 text) else below (numbers_in w / 2) (positive text)
+    if begins text (codes "-")
+    then negative w (drop 1 text)
+    else below (numbers_in w / 2) (positive text)
 
 -- Whether the front of a text means true, and whether it means false.
 abbrev pub is_on : List ℕ → Bool
 is_on text =
     begins text (codes "1") || begins text (codes "y") || begins text (codes "Y")
-    || begins text (codes "on") || begins text (codes "oN") || begins text (codes "On") || begins text (codes "ON")
+    || begins text (codes "on")
+    || begins text (codes "oN")
+    || begins text (codes "On")
+    || begins text (codes "ON")
 
 abbrev pub is_off : List ℕ → Bool
 is_off text =
     begins text (codes "0") || begins text (codes "n") || begins text (codes "N")
-    || begins text (codes "of") || begins text (codes "oF") || begins text (codes "Of") || begins text (codes "OF")
+    || begins text (codes "of")
+    || begins text (codes "oF")
+    || begins text (codes "Of")
+    || begins text (codes "OF")
 
 -- A truth value: 1 or 0.
 unfoldable pub truth : List ℕ → Option ℕ

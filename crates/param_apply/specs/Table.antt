@@ -1,7 +1,8 @@
 -- The table of a module's parameters, in its image. The kernel's include/linux/moduleparam.h,
 -- struct kernel_param, has an entry for each parameter. An entry has 40 bytes, with the address of
 -- the name at 0 and the address of the value at 32. This is the project's own reading of it.
-use Rattle.std.specs.Prelude.{ℕ, ◌+◌, ◌-◌, ◌*◌, ◌/◌, ◌%◌, ◌^◌, ◌==◌, not, if◌then◌else◌, List, [], ◌∷◌, ◌++◌, length, map, slice_get, codes, Option, is_none, unwrap_or}
+use Rattle.std.specs.Prelude.{ℕ, ◌+◌, ◌-◌, ◌*◌, ◌/◌, ◌%◌, ◌^◌, ◌==◌, not, if◌then◌else◌, List, []}
+use Rattle.std.specs.Prelude.{◌∷◌, ◌++◌, length, map, slice_get, codes, Option, is_none, unwrap_or}
 use Rattle.std.specs.List.{position, range_with_len}
 use Rattle.std.specs.Option.{option_map_or}
 use Rattle.std.specs.Str.{bytes_eq}
@@ -21,12 +22,16 @@ use Rattle.param_apply.specs.declared.table.ParamTable.{ParamTable}
 -- that isn't in memory is an empty table.
 abbrev pub table_at : FileObject → ℕ → Section → ParamTable
 table_at o at s =
-    if s.kept then record { at = at; size = length (bytes_of o.file s) } else record { at = 0; size = 0 }
+    if s.kept
+    then record { at = at; size = length (bytes_of o.file s) }
+    else record { at = 0; size = 0 }
 
 -- The table of an object: the first section named `__param`, and an empty one if there is none.
 unfoldable pub table_of : FileObject → ParamTable
 table_of o =
-    option_map_or (λ i. option_map_or (table_at o (offset o.sections i)) (slice_get o.sections i) (record { at = 0; size = 0 }))
+    option_map_or
+    (λ i. option_map_or (table_at o (offset o.sections i)) (slice_get o.sections i)
+    (record { at = 0; size = 0 }))
     (position (λ s. bytes_eq s.name (codes "__param")) o.sections) (record { at = 0; size = 0 })
 
 -- The number of its whole entries.
@@ -51,7 +56,8 @@ end_fault t = fault_if (not (t.size % 40 == 0)) (BadParamTable (entry_count t))
 
 -- The fault of the table: the first of these tests that fails.
 unfoldable pub table_fault : List ℕ → ℕ → ParamTable → Option ParamFault
-table_fault image base t = first (each (entry_count t) (entry_fault image base t) ++ end_fault t ∷ [])
+table_fault image base t =
+    first (each (entry_count t) (entry_fault image base t) ++ end_fault t ∷ [])
 
 -- An entry of a table without fault: its name, and the place of its value.
 pub record Entry : Type 0 where

@@ -1,7 +1,8 @@
 -- The parameters of a module, and the words that name them. The kernel's parse_args,
 -- kernel/params.c; modprobe(8). That only spaces separate words, without quotes, is this project's
 -- choice.
-use Rattle.std.specs.Prelude.{ℕ, ◌==◌, not, Bool, if◌then◌else◌, List, map, filter, take_while, slice_get, codes, Option, Some, None, option_map, option_and_then}
+use Rattle.std.specs.Prelude.{ℕ, ◌==◌, not, Bool, if◌then◌else◌, List, map, filter, take_while}
+use Rattle.std.specs.Prelude.{slice_get, codes, Option, Some, None, option_map, option_and_then}
 use Rattle.std.specs.List.{slice_split, before_first, after_first, filter_map, list_any, position}
 use Rattle.std.specs.Str.{bytes_eq}
 use Rattle.elf_object.specs.Object.{FileObject}
@@ -60,7 +61,8 @@ abbrev pub word_name : List ℕ → List ℕ
 word_name word = before_first (λ b. b == 61) word
 
 abbrev pub word_text : List ℕ → Option (List ℕ)
-word_text word = if list_any (λ b. b == 61) word then Some (after_first (λ b. b == 61) word) else None
+word_text word =
+    if list_any (λ b. b == 61) word then Some (after_first (λ b. b == 61) word) else None
 
 -- The number of the parameter of a name, the first of several.
 abbrev pub number_named : List Parameter → List ℕ → Option ℕ
@@ -72,7 +74,9 @@ pub record Setting : Type 0 where
   pub text : Option (List ℕ)
 
 abbrev pub setting : List Parameter → List ℕ → Option Setting
-setting params word = option_map (λ k. record { number = k; text = word_text word }) (number_named params (word_name word))
+setting params word =
+    option_map (λ k. record { number = k; text = word_text word })
+    (number_named params (word_name word))
 
 -- The settings of the words of options that name parameters, in order. Words that name none are
 -- left out.

@@ -1,6 +1,7 @@
 -- What is kept while words are written into an image.
 -- It belongs to the code: no public meaning rests on it.
-use Rattle.std.specs.Prelude.{◌≡◌, ℕ, ◌<◌, ◌||◌, Bool, true, false, List, length, map, take, slice_get, Some, None, get_or}
+use Rattle.std.specs.Prelude.{◌≡◌, ℕ, ◌<◌, ◌||◌, Bool, true, false, List, length, map, take}
+use Rattle.std.specs.Prelude.{slice_get, Some, None, get_or}
 use Rattle.std.specs.List.{list_any}
 use Rattle.elf_object.specs.Object.{FileObject}
 use Rattle.param_apply.specs.declared.kind.ParamType.{ParamType}
@@ -17,14 +18,18 @@ is_of_any params x ss = list_any (λ (s : Setting). is_in_value params s.number 
 
 -- After these words the flags are the ones of the bytes and of the parameters, and the value of
 -- each named parameter isn't misplaced.
-pub record AreClaims (c : Claims) (o : FileObject) (params : List Parameter) (done : List Setting) : Type 0 where
-  pub taken : (x : ℕ) → x < length c.taken.items → get_or c.taken.items x false ≡ (is_reserved o x || is_of_any params x done)
+pub record AreClaims (c : Claims) (o : FileObject) (params : List Parameter) (done : List Setting) :
+    Type 0 where
+  pub taken : (x : ℕ) → x < length c.taken.items
+      → get_or c.taken.items x false ≡ (is_reserved o x || is_of_any params x done)
   pub count : length c.named.items ≡ length params
   pub named : (k : ℕ) → k < length params → get_or c.named.items k false ≡ is_named done k
-  pub placed : (k : ℕ) (p : Parameter) → slice_get params k ≡ Some p → is_named done k ≡ true → is_misplaced o params (length c.taken.items) done k p ≡ false
+  pub placed : (k : ℕ) (p : Parameter) → slice_get params k ≡ Some p → is_named done k ≡ true
+      → is_misplaced o params (length c.taken.items) done k p ≡ false
 
 -- The first i of these words are written into a copy of the image.
-pub record IsWritten (image copy : List ℕ) (c : Claims) (o : FileObject) (params : List Parameter) (ss : List Setting) (i : ℕ) : Type 0 where
+pub record IsWritten (image copy : List ℕ) (c : Claims) (o : FileObject) (params : List Parameter)
+    (ss : List Setting) (i : ℕ) : Type 0 where
   pub claims : AreClaims c o params (take i ss)
   pub taken : length c.taken.items ≡ length image
   pub bytes : copy ≡ with_pieces image (map (piece params) (take i ss))

@@ -43,10 +43,15 @@ pub fn apply_params(
     options: &[u8],
 ) -> Result<Params, ParamFault>
     requires { length image.now ≡ image_size «module».now.object.sections }
-    ensures image { IfOk result (λ p. p.image ≡ finished «module».now.object base image.now options.now) }
-    ensures count { IfOk result (λ p. p.count ≡ count_of «module».now.object base image.now options.now) }
-    ensures passed { OnOk result (param_fault «module».now.object base image.now options.now ≡ None) }
-    ensures fault { IfErr result (λ e. (e ≡ Memory) ⊎ (param_fault «module».now.object base image.now options.now ≡ Some e)) }
+    ensures image { IfOk result
+        (λ p. p.image ≡ finished «module».now.object base image.now options.now) }
+    ensures count { IfOk result
+        (λ p. p.count ≡ count_of «module».now.object base image.now options.now) }
+    ensures passed { OnOk result
+        (param_fault «module».now.object base image.now options.now ≡ None) }
+    ensures fault { IfErr result
+        (λ e. (e ≡ Memory)
+        ⊎ (param_fault «module».now.object base image.now options.now ≡ Some e)) }
 {
     let object = &module.object;
     let table = table_of(object);

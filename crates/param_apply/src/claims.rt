@@ -1,7 +1,8 @@
 // The bytes of an image that are taken while words are written into it, and the parameters that
 // words name.
 
-ghost use Rattle.std.specs.Prelude.{◌≡◌, ℕ, ◌+◌, ◌<◌, ◌≤◌, ◌⊎◌, List, [], ◌∷◌, ◌++◌, true, false, length, slice_get, get_or, None, Some, IfErr, IfOk, OnOk};
+ghost use Rattle.std.specs.Prelude.{◌≡◌, ℕ, ◌+◌, ◌<◌, ◌≤◌, ◌⊎◌, List, [], ◌∷◌, ◌++◌, true, false};
+ghost use Rattle.std.specs.Prelude.{length, slice_get, get_or, None, Some, IfErr, IfOk, OnOk};
 ghost use Rattle.std.specs.List.{count_by};
 ghost use Rattle.elf_object.specs.Object.{FileObject};
 ghost use Rattle.param_apply.specs.declared.fault.ParamFault.TheVariants.{BadParamPlace, Memory};
@@ -53,7 +54,8 @@ pub(crate) fn value_of(
 ) -> Result<Value, ParamFault>
     ensures value { IfOk result (λ v. IsValueOf v param.now setting.now) }
     ensures small { IfOk result (λ v. v.width ≤ 8) }
-    ensures fault { IfErr result (λ e. (e ≡ Memory) ⊎ (value_test setting.now param.now param.now.kind ≡ Some e)) }
+    ensures fault { IfErr result
+        (λ e. (e ≡ Memory) ⊎ (value_test setting.now param.now param.now.kind ≡ Some e)) }
 {
     let Some(kind) = param.kind else {
         return Err(ParamFault::UnknownParamType {
@@ -83,7 +85,8 @@ impl Claims {
     /// Returns the claims of this many parameters before any word, by the bytes that are reserved.
     pub(crate) fn new(alloc: Global, taken: Vec<bool>, params: usize) -> Result<Claims, AllocError>
         ensures taken { IfOk result (λ c. c.taken.items ≡ taken.items) }
-        ensures claims { IfOk result (λ c. (o : FileObject) (list : List Parameter) → length list ≡ params
+        ensures claims { IfOk result (λ c. (o : FileObject) (list : List Parameter)
+            → length list ≡ params
             → ((x : ℕ) → x < length taken.items → get_or taken.items x false ≡ is_reserved o x)
             → AreClaims c o list []) }
     {
@@ -109,10 +112,15 @@ impl Claims {
         ensures count { OnOk result (length self.new.named.items ≡ length self.old.named.items) }
         ensures inside { OnOk result (param.now.at + width ≤ length self.old.taken.items) }
         ensures claims { OnOk result ((o : FileObject) (list : List Parameter) (done : List Setting) (s : Setting)
-            → AreClaims self.old o list done → slice_get list number ≡ Some param.now → value_width param.now ≡ width → s.number ≡ number
-            → (is_misplaced o list (length self.old.taken.items) done number param.now ≡ false) × AreClaims self.new o list (done ++ s ∷ [])) }
-        ensures fault { IfErr result (λ e. (e ≡ Memory) ⊎ ((e ≡ BadParamPlace param.now.name) × ((o : FileObject) (list : List Parameter) (done : List Setting)
-            → AreClaims self.old o list done → slice_get list number ≡ Some param.now → value_width param.now ≡ width
+            → AreClaims self.old o list done → slice_get list number ≡ Some param.now
+            → value_width param.now ≡ width → s.number ≡ number
+            → (is_misplaced o list (length self.old.taken.items) done number param.now ≡ false)
+            × AreClaims self.new o list (done ++ s ∷ [])) }
+        ensures fault { IfErr result (λ e. (e ≡ Memory)
+            ⊎ ((e ≡ BadParamPlace param.now.name)
+            × ((o : FileObject) (list : List Parameter) (done : List Setting)
+            → AreClaims self.old o list done → slice_get list number ≡ Some param.now
+            → value_width param.now ≡ width
             → is_misplaced o list (length self.old.taken.items) done number param.now ≡ true))) }
     {
         let len = self.taken.len() as u128;

@@ -4,7 +4,9 @@ ghost use Rattle.std.specs.Prelude.{◌≡◌, ◌+◌, ◌*◌, ◌≤◌, ◌^
 ghost use Rattle.std.specs.List.{list_all};
 ghost use Rattle.std.specs.Char.{is_digit, digit_value};
 ghost use Rattle.std.specs.Str.Parse.{digits_value};
-ghost use Rattle.param_apply.specs.Numbers.{below, digits as digits_spec, is_hexadecimal, is_off, is_on, magnitude, negative, positive, signed, truth, unsigned};
+ghost use Rattle.param_apply.specs.Numbers.{below, digits as digits_spec, is_hexadecimal, is_off};
+ghost use Rattle.param_apply.specs.Numbers.{is_on, magnitude, negative, positive, signed, truth};
+ghost use Rattle.param_apply.specs.Numbers.{unsigned};
 
 use crate::kind::Width;
 

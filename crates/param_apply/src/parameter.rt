@@ -5,7 +5,8 @@ ghost use Rattle.name_table.specs.NameTable.{IsTableOf, place_of};
 ghost use Rattle.km_names.specs.Path.{underscored};
 ghost use Rattle.module_facts.specs.Contents.{modinfo_bytes};
 ghost use Rattle.param_apply.specs.Kinds.{kind_of};
-ghost use Rattle.param_apply.specs.Words.{kind_named, number_named, parameter, text_name, text_type, type_texts};
+ghost use Rattle.param_apply.specs.Words.{kind_named, number_named, parameter, text_name};
+ghost use Rattle.param_apply.specs.Words.{text_type, type_texts};
 
 use crate::kind::{ParamType, kind_of};
 use crate::table::EntryRef;
@@ -66,7 +67,8 @@ struct Types {
 
 /// Returns the table of the names in texts.
 fn text_names(alloc: Global, texts: &[Blob]) -> Result<OwnedNameTable, AllocError>
-    ensures { IfOk result (λ t. IsTableOf t (map (λ text. Some (underscored (text_name text))) texts.now)) }
+    ensures { IfOk result
+        (λ t. IsTableOf t (map (λ text. Some (underscored (text_name text))) texts.now)) }
 {
     // No file has so many texts.
     if u32::MAX as usize <= texts.len() {
@@ -93,7 +95,9 @@ impl Types {
 
     /// Returns the type in the text at a place, if there is a text and its type is known.
     fn kind_at(&self, place: Option<u32>) -> Option<ParamType>
-        ensures { result ≡ option_and_then (λ text. kind_of (text_type text)) (option_and_then (slice_get self.now.texts) place) }
+        ensures { result
+            ≡ option_and_then (λ text. kind_of (text_type text))
+            (option_and_then (slice_get self.now.texts) place) }
     {
         let place = place?;
         let text = self.texts.get(place as usize)?;
@@ -160,7 +164,8 @@ impl<'a> Parameters<'a> {
         object: &Object,
         entries: &[EntryRef<'a>],
     ) -> Result<Parameters<'a>, AllocError>
-        ensures { IfOk result (λ p. p.list.items ≡ map (parameter (type_texts object.now)) entries.now) }
+        ensures { IfOk result
+            (λ p. p.list.items ≡ map (parameter (type_texts object.now)) entries.now) }
     {
         let types = Types::new(alloc, object)?;
         let list = params_of(alloc, &types, entries)?;

@@ -68,7 +68,9 @@ fn setting_of<'a>(
     params: &Parameters,
     piece: &'a [u8],
 ) -> Result<Option<SettingRef<'a>>, AllocError>
-    ensures { IfOk result (λ s. option_to_list s ≡ filter_map (setting params.now.list.items) (filter is_text (piece.now ∷ []))) }
+    ensures { IfOk result
+        (λ s. option_to_list s
+        ≡ filter_map (setting params.now.list.items) (filter is_text (piece.now ∷ []))) }
 {
     if piece.is_empty() {
         return Ok(None);

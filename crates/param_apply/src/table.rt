@@ -1,12 +1,14 @@
 // The table of a module's parameters, in its image.
 
-ghost use Rattle.std.specs.Prelude.{◌≡◌, ◌+◌, ◌*◌, ◌<◌, ◌≤◌, ◌^◌, ◌⊎◌, true, length, None, Some, IfErr, IfOk, IfSome, OnOk, option_copied, slice_get};
+ghost use Rattle.std.specs.Prelude.{◌≡◌, ◌+◌, ◌*◌, ◌<◌, ◌≤◌, ◌^◌, ◌⊎◌, true, length, None, Some};
+ghost use Rattle.std.specs.Prelude.{IfErr, IfOk, IfSome, OnOk, option_copied, slice_get};
 ghost use Rattle.elf_sections.specs.declared.strings.TheConstants.{NAME_LIMIT};
 ghost use Rattle.image_layout.specs.Offsets.{image_size, offset};
 ghost use Rattle.km_names.specs.Limit.{file_limit};
 ghost use Rattle.km_names.specs.Strings.{string_at};
 ghost use Rattle.param_apply.specs.declared.fault.ParamFault.TheVariants.{Memory};
-ghost use Rattle.param_apply.specs.Table.{entries as entries_spec, entry as entry_spec, entry_fault, place_of, table_at, table_fault, table_of};
+ghost use Rattle.param_apply.specs.Table.{entries as entries_spec, entry as entry_spec};
+ghost use Rattle.param_apply.specs.Table.{entry_fault, place_of, table_at, table_fault, table_of};
 
 use crate::ParamFault;
 use elf_object::{NAME_LIMIT, Object};
@@ -32,7 +34,8 @@ pub(crate) struct ParamTable {
 fn table_at(object: &Object, i: u32) -> ParamTable
     requires section { i < length object.now.sections }
     requires fits { image_size object.now.sections < 2 ^ 63 }
-    ensures table { IfSome (slice_get object.now.sections i) (λ s. result ≡ table_at object.now (offset object.now.sections i) s) }
+    ensures table { IfSome (slice_get object.now.sections i)
+        (λ s. result ≡ table_at object.now (offset object.now.sections i) s) }
     ensures within { result.at + result.size ≤ image_size object.now.sections }
     ensures short { result.size ≤ file_limit }
 {
@@ -126,7 +129,8 @@ fn entry_at(
     ensures entry { IfOk result (λ e. e ≡ entry_spec image.now base table k) }
     ensures names { IfOk result (λ e. length e.name ≤ left) }
     ensures passed { OnOk result (entry_fault image.now base table k ≡ None) }
-    ensures fault { IfErr result (λ e. (e ≡ Memory) ⊎ (entry_fault image.now base table k ≡ Some e)) }
+    ensures fault { IfErr result
+        (λ e. (e ≡ Memory) ⊎ (entry_fault image.now base table k ≡ Some e)) }
 {
     let at = table.at as usize + ENTRY_SIZE * k;
     let Some(name) = string_within(image, place_of(image, base, at), left)? else {

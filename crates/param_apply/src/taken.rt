@@ -1,6 +1,7 @@
 // The bytes of an image that no value may have.
 
-ghost use Rattle.std.specs.Prelude.{◌≡◌, ℕ, ◌+◌, ◌<◌, ◌≤◌, ◌^◌, ◌||◌, ◌⊎◌, true, false, length, get_or, IfOk};
+ghost use Rattle.std.specs.Prelude.{◌≡◌, ℕ, ◌+◌, ◌<◌, ◌≤◌, ◌^◌, ◌||◌, ◌⊎◌, true, false, length};
+ghost use Rattle.std.specs.Prelude.{get_or, IfOk};
 ghost use Rattle.elf_object.specs.Object.{FileObject};
 ghost use Rattle.image_layout.specs.Offsets.{offsets};
 ghost use Rattle.param_apply.specs.Places.{is_among, is_relocated_by, is_reserved};
@@ -31,8 +32,10 @@ pub(crate) fn mark(taken: &mut Vec<bool>, at: u128, size: u64)
 fn mark_place(taken: &mut Vec<bool>, layout: &Layout, place: &RelaPlace)
     requires { place.now.target < length layout.now }
     ensures same { length taken.new.items ≡ length taken.old.items }
-    ensures marked { (o : FileObject) → layout.now ≡ offsets o.sections → (x : ℕ) → x < length taken.old.items
-        → get_or taken.new.items x false ≡ (get_or taken.old.items x false || is_relocated_by o x place.now) }
+    ensures marked { (o : FileObject) → layout.now ≡ offsets o.sections → (x : ℕ)
+        → x < length taken.old.items
+        → get_or taken.new.items x false
+        ≡ (get_or taken.old.items x false || is_relocated_by o x place.now) }
 {
     let at = u128::from(layout.offset(place.target)) + u128::from(place.offset);
     mark(taken, at, u64::from(width(place.kind).unwrap_or(0)));
@@ -50,7 +53,8 @@ pub(crate) fn reserved(
     requires layout { layout.now ≡ offsets object.now.sections }
     requires table { table ≡ table_of object.now }
     ensures length { IfOk result (λ v. length v.items ≡ len) }
-    ensures reserved { IfOk result (λ v. (x : ℕ) → x < len → get_or v.items x false ≡ is_reserved object.now x) }
+    ensures reserved { IfOk result
+        (λ v. (x : ℕ) → x < len → get_or v.items x false ≡ is_reserved object.now x) }
 {
     let mut taken = vec![in alloc; false; len]?;
     for i in 0..object.place_count() {
@@ -64,7 +68,8 @@ pub(crate) fn reserved(
 pub(crate) fn are_free(taken: &[bool], at: u64, size: usize) -> bool
     requires { size ≤ 8 }
     ensures inside { result ≡ true → at + size ≤ length taken.now }
-    ensures free { result ≡ true → (x : ℕ) → at ≤ x → x < at + size → get_or taken.now x false ≡ false }
+    ensures free { result ≡ true → (x : ℕ) → at ≤ x → x < at + size
+        → get_or taken.now x false ≡ false }
     ensures taken { result ≡ false → (length taken.now < at + size)
         ⊎ ((x : ℕ) × (at ≤ x) × (x < at + size) × (get_or taken.now x false ≡ true)) }
 {

@@ -1,11 +1,13 @@
 // Writes the words of options into a copy of an image.
 
-ghost use Rattle.std.specs.Prelude.{◌≡◌, ℕ, ◌+◌, ◌<◌, ◌≤◌, ◌^◌, ◌⊎◌, List, ◌∷◌, [], ◌++◌, All, length, map, None, Some, IfErr, IfOk, OnOk};
+ghost use Rattle.std.specs.Prelude.{◌≡◌, ℕ, ◌+◌, ◌<◌, ◌≤◌, ◌^◌, ◌⊎◌, List, ◌∷◌, [], ◌++◌, All};
+ghost use Rattle.std.specs.Prelude.{length, map, None, Some, IfErr, IfOk, OnOk};
 ghost use Rattle.elf_object.specs.Object.{FileObject};
 ghost use Rattle.image_layout.specs.Offsets.{offsets};
 ghost use Rattle.raw_image.specs.Bytes.{with_bytes};
 ghost use Rattle.param_apply.specs.declared.fault.ParamFault.TheVariants.{Memory};
-ghost use Rattle.param_apply.specs.Applied.{named_count, piece, setting_fault, with_pieces, words_fault};
+ghost use Rattle.param_apply.specs.Applied.{named_count, piece, setting_fault, with_pieces};
+ghost use Rattle.param_apply.specs.Applied.{words_fault};
 ghost use Rattle.param_apply.specs.Table.{table_of};
 ghost use Rattle.param_apply.specs.Words.{Setting};
 ghost use Rattle.param_apply.specs.Writing.{AreClaims};
@@ -47,13 +49,21 @@ fn write(
     requires taken { length claims.old.taken.items ≡ length image.old }
     ensures same { OnOk result (length claims.new.taken.items ≡ length claims.old.taken.items) }
     ensures count { OnOk result (length claims.new.named.items ≡ length claims.old.named.items) }
-    ensures bytes { OnOk result (image.new ≡ with_bytes image.old (piece params.now setting.now).at (piece params.now setting.now).bytes) }
-    ensures inside { OnOk result ((piece params.now setting.now).at + length (piece params.now setting.now).bytes ≤ length image.old) }
-    ensures claims { OnOk result ((o : FileObject) (done : List Setting) → AreClaims claims.old o params.now done
+    ensures bytes { OnOk result
+        (image.new
+        ≡ with_bytes image.old (piece params.now setting.now).at
+        (piece params.now setting.now).bytes) }
+    ensures inside { OnOk result
+        ((piece params.now setting.now).at + length (piece params.now setting.now).bytes
+        ≤ length image.old) }
+    ensures claims { OnOk result ((o : FileObject) (done : List Setting)
+        → AreClaims claims.old o params.now done
         → AreClaims claims.new o params.now (done ++ setting.now ∷ [])) }
-    ensures passed { OnOk result ((o : FileObject) (done : List Setting) → AreClaims claims.old o params.now done
+    ensures passed { OnOk result ((o : FileObject) (done : List Setting)
+        → AreClaims claims.old o params.now done
         → setting_fault o params.now (length image.old) done setting.now ≡ None) }
-    ensures fault { IfErr result (λ e. (e ≡ Memory) ⊎ ((o : FileObject) (done : List Setting) → AreClaims claims.old o params.now done
+    ensures fault { IfErr result (λ e. (e ≡ Memory) ⊎ ((o : FileObject) (done : List Setting)
+        → AreClaims claims.old o params.now done
         → setting_fault o params.now (length image.old) done setting.now ≡ Some e)) }
 {
     let param = &params[setting.number as usize];
@@ -82,10 +92,14 @@ pub(crate) fn written(
     requires table { table ≡ table_of object.now }
     requires few { length params.now < 2 ^ 32 }
     requires numbers { All (λ s. s.number < length params.now) settings.now }
-    ensures image { IfOk result (λ p. p.image ≡ with_pieces image.now (map (piece params.now) settings.now)) }
+    ensures image { IfOk result
+        (λ p. p.image ≡ with_pieces image.now (map (piece params.now) settings.now)) }
     ensures count { IfOk result (λ p. p.count ≡ named_count params.now settings.now) }
-    ensures passed { OnOk result (words_fault object.now params.now (length image.now) settings.now ≡ None) }
-    ensures fault { IfErr result (λ e. (e ≡ Memory) ⊎ (words_fault object.now params.now (length image.now) settings.now ≡ Some e)) }
+    ensures passed { OnOk result
+        (words_fault object.now params.now (length image.now) settings.now ≡ None) }
+    ensures fault { IfErr result
+        (λ e. (e ≡ Memory)
+        ⊎ (words_fault object.now params.now (length image.now) settings.now ≡ Some e)) }
 {
     let mut copy = copied(alloc, image)?;
     let taken = reserved(alloc, object, layout, table, image.len())?;

@@ -12,10 +12,13 @@ use Rattle.dependency_lines.specs.Modules.{bad_name, name_at}
 use Rattle.planned_modules.specs.Needs.{Sources, modules, before}
 use Rattle.planned_modules.specs.Members.{planned, is_unfound, is_unknown, all_names}
 use Rattle.plan_builder.specs.Requested.{found_for}
-use Rattle.plan_builder.specs.Obstacles.{bad_dep_line, unbound_line, not_found, is_path_of, stands, is_obstacle, line_of, cycle_obstacle, plan_tests, obstacle_of}
+use Rattle.plan_builder.specs.Obstacles.{bad_dep_line, unbound_line, not_found, is_path_of, stands}
+use Rattle.plan_builder.specs.Obstacles.{is_obstacle, line_of, cycle_obstacle, plan_tests}
+use Rattle.plan_builder.specs.Obstacles.{obstacle_of}
 use Rattle.dependency_lines.proofs.Finds.{option-none}
 
-first-two : {F : Type 0} (t : Option F) (ts : List (Option F)) → first (t ∷ ts) ≡ None → (t ≡ None) × (first ts ≡ None)
+first-two : {F : Type 0} (t : Option F) (ts : List (Option F)) → first (t ∷ ts) ≡ None
+    → (t ≡ None) × (first ts ≡ None)
 first-two None ts none = (refl, none)
 first-two (Some f) ts none = absurd (let bad = none in cc)
 
@@ -24,12 +27,17 @@ cycle-none f [] none = refl
 cycle-none f (x ∷ xs) none = absurd (let bad = none in cc)
 
 -- the tests of what is planned, and that of the dependency lines
-pub sound-lines : (s : Sources) (request : Request) → obstacle_of s request ≡ None → (bad_name s.maps.dep ≡ None) × (first (plan_tests s (found_for s request)) ≡ None)
+pub sound-lines : (s : Sources) (request : Request) → obstacle_of s request ≡ None
+    → (bad_name s.maps.dep ≡ None) × (first (plan_tests s (found_for s request)) ≡ None)
 unfolding obstacle_of
 sound-lines s request none =
     let unfound = option_map not_found (find (is_unfound s) request.names) in
-    let unknown = option_map not_found (find (is_unknown s request.ignore_install) (all_names (found_for s request))) in
-    let a = first-two (option_map bad_dep_line (bad_name s.maps.dep)) (unfound ∷ unknown ∷ plan_tests s (found_for s request)) none in
+    let unknown
+    = option_map not_found
+    (find (is_unknown s request.ignore_install) (all_names (found_for s request))) in
+    let a
+    = first-two (option_map bad_dep_line (bad_name s.maps.dep))
+    (unfound ∷ unknown ∷ plan_tests s (found_for s request)) none in
     let b = first-two unfound (unknown ∷ plan_tests s (found_for s request)) a.1 in
     let c = first-two unknown (plan_tests s (found_for s request)) b.1 in
     (option-none bad_dep_line (bad_name s.maps.dep) a.0, c.1)
@@ -37,7 +45,9 @@ sound-lines s request none =
 -- no line of a kind is an obstacle to what is planned
 abbrev NoLine : Sources → Request → LineKind → Type 0
 NoLine s request kind =
-    find (is_obstacle kind (is_path_of (modules s) (planned s (found_for s request))) (stands s)) s.unmet ≡ None
+    find (is_obstacle kind (is_path_of (modules s) (planned s (found_for s request))) (stands s))
+    s.unmet
+    ≡ None
 
 -- there is none, and nothing planned comes before itself
 pub record NoLines (s : Sources) (request : Request) : Type 0 where
@@ -48,13 +58,24 @@ pub record NoLines (s : Sources) (request : Request) : Type 0 where
   pub acyclic : cycle (among (before s)) (planned s (found_for s request)) ≡ []
   pub double : NoLine s request kinds.Double
 
-pub lines-none : (s : Sources) (request : Request) → first (plan_tests s (found_for s request)) ≡ None → NoLines s request
+pub lines-none : (s : Sources) (request : Request)
+    → first (plan_tests s (found_for s request)) ≡ None → NoLines s request
 lines-none s request tests =
     let line = line_of s (found_for s request) in
-    let order = cycle_obstacle (map (name_at (modules s)) (cycle (among (before s)) (planned s (found_for s request)))) in
-    let a = first-two (line kinds.Missing) (line kinds.Gpl ∷ line kinds.Version ∷ line kinds.Namespace ∷ order ∷ line kinds.Double ∷ []) tests in
-    let b = first-two (line kinds.Gpl) (line kinds.Version ∷ line kinds.Namespace ∷ order ∷ line kinds.Double ∷ []) a.1 in
-    let c = first-two (line kinds.Version) (line kinds.Namespace ∷ order ∷ line kinds.Double ∷ []) b.1 in
+    let order
+    = cycle_obstacle
+    (map (name_at (modules s)) (cycle (among (before s)) (planned s (found_for s request))))
+    in
+    let a
+    = first-two (line kinds.Missing)
+    (line kinds.Gpl ∷ line kinds.Version ∷ line kinds.Namespace ∷ order ∷ line kinds.Double
+    ∷ []) tests in
+    let b
+    = first-two (line kinds.Gpl)
+    (line kinds.Version ∷ line kinds.Namespace ∷ order ∷ line kinds.Double ∷ []) a.1 in
+    let c
+    = first-two (line kinds.Version) (line kinds.Namespace ∷ order ∷ line kinds.Double ∷ []) b.1
+    in
     let d = first-two (line kinds.Namespace) (order ∷ line kinds.Double ∷ []) c.1 in
     let e = first-two order (line kinds.Double ∷ []) d.1 in
     let f = first-two (line kinds.Double) [] e.1 in

@@ -27,7 +27,8 @@ name_obstacle (unresolved.NotFound name) = obstacles.NotFound name
 name_obstacle unresolved.Memory = obstacles.Memory
 
 -- The tests of the lines on needs.
-abbrev pub need_tests : (List ℕ → Bool) → (List ℕ → Bool) → List Unbound → List (Option PlanObstacle)
+abbrev pub need_tests : (List ℕ → Bool) → (List ℕ → Bool) → List Unbound
+    → List (Option PlanObstacle)
 need_tests in_plan there unmet =
     first_line kinds.Missing in_plan there unmet
     ∷ first_line kinds.Gpl in_plan there unmet

@@ -1,6 +1,7 @@
 -- Closed plans: the steps of a plan over dependency lines, lines of modules.unmet and the names of
 -- loaded modules. modules.dep(5).
-use Rattle.std.specs.Prelude.{◌≡◌, ◌&&◌, ◌||◌, ℕ, Bool, true, false, List, [], ◌∷◌, ◌++◌, All, Some, slice_get, if◌then◌else◌}
+use Rattle.std.specs.Prelude.{◌≡◌, ◌&&◌, ◌||◌, ℕ, Bool, true, false, List, [], ◌∷◌, ◌++◌, All, Some}
+use Rattle.std.specs.Prelude.{slice_get, if◌then◌else◌}
 use Rattle.std.specs.List.{IsDistinct, list_any, flat_map}
 use Rattle.std.specs.Option.{option_map_or}
 use Rattle.std.specs.Str.{bytes_eq}
@@ -57,14 +58,23 @@ IsAtOwnPath dep (Builtin name) = Unit {0}
 pub record IsClosedPlan (s : Sources) (steps : List PlanStep) : Type 0 where
   -- The modules of its steps are distinct, and none is loaded.
   pub distinct : IsDistinct bytes_eq (step_modules s.maps.dep steps)
-  pub unloaded : (name : List ℕ) → is_among (step_modules s.maps.dep steps) name ≡ true → is_among s.loaded name ≡ false
+  pub unloaded : (name : List ℕ) → is_among (step_modules s.maps.dep steps) name ≡ true
+      → is_among s.loaded name ≡ false
   -- Each module that is loaded has its own name, and the first path of its dependency line.
   pub paths : All (IsAtOwnPath s.maps.dep) steps
   -- Each module that the dependency line of a step's module names is loaded, or belongs to an
   -- earlier step.
-  pub behind : (before : List PlanStep) (step : PlanStep) (after : List PlanStep) → steps ≡ before ++ step ∷ after → (name : List ℕ) → is_among (step_module s.maps.dep step) name ≡ true → (needed : List ℕ) → is_among (needed_names (first_text s.maps.dep name)) needed ≡ true → is_among (s.loaded ++ step_modules s.maps.dep before) needed ≡ true
+  pub behind : (before : List PlanStep) (step : PlanStep) (after : List PlanStep)
+      → steps ≡ before ++ step ∷ after → (name : List ℕ)
+      → is_among (step_module s.maps.dep step) name ≡ true → (needed : List ℕ)
+      → is_among (needed_names (first_text s.maps.dep name)) needed ≡ true
+      → is_among (s.loaded ++ step_modules s.maps.dep before) needed ≡ true
   -- No double line has both sides among the plan's modules, the loaded ones and the kernel, and one
   -- of them in the plan.
-  pub alone : list_any (collides (is_there s.maps.dep (s.loaded ++ step_modules s.maps.dep steps)) (is_at_one s.maps.dep (step_modules s.maps.dep steps))) s.unmet ≡ false
+  pub alone : list_any
+      (collides (is_there s.maps.dep (s.loaded ++ step_modules s.maps.dep steps))
+      (is_at_one s.maps.dep (step_modules s.maps.dep steps))) s.unmet
+      ≡ false
   -- No other line belongs to a module of the plan.
-  pub clear : (name : List ℕ) → is_among (step_modules s.maps.dep steps) name ≡ true → list_any (belongs (own_path (first_text s.maps.dep name))) s.unmet ≡ false
+  pub clear : (name : List ℕ) → is_among (step_modules s.maps.dep steps) name ≡ true
+      → list_any (belongs (own_path (first_text s.maps.dep name))) s.unmet ≡ false

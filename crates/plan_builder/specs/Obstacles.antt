@@ -1,6 +1,7 @@
 -- Why a request has no plan: the first test that fails. The first line of modules.unmet of each
 -- kind counts, with lines on missing symbols first. modprobe(8).
-use Rattle.std.specs.Prelude.{ℕ, ◌||◌, Bool, false, List, [], ◌∷◌, map, Option, Some, None, option_map}
+use Rattle.std.specs.Prelude.{ℕ, ◌||◌, Bool, false, List, [], ◌∷◌, map, Option, Some, None}
+use Rattle.std.specs.Prelude.{option_map}
 use Rattle.std.specs.List.{find, list_any}
 use Rattle.std.specs.Str.{bytes_eq}
 use Rattle.km_names.specs.First.{first}
@@ -40,7 +41,8 @@ is_path_of ms places path = list_any (λ x. bytes_eq (path_at ms x) path) places
 
 -- Whether a side of a double line is present before the plan: the kernel, or a loaded module.
 abbrev pub stands : Sources → List ℕ → Bool
-stands s path = bytes_eq path vmlinux || is_path_of (modules s) (places_of (modules s) s.loaded) path
+stands s path =
+    bytes_eq path vmlinux || is_path_of (modules s) (places_of (modules s) s.loaded) path
 
 -- Whether a line is an obstacle of a kind: it is on a need of a planned module, or it is a double
 -- line that collides with the plan.
@@ -49,16 +51,20 @@ is_obstacle kinds.Missing in_plan there (lines.Missing path symbol) = in_plan pa
 is_obstacle kinds.Gpl in_plan there (lines.Gpl path symbol by) = in_plan path
 is_obstacle kinds.Version in_plan there (lines.Version path symbol by) = in_plan path
 is_obstacle kinds.Namespace in_plan there (lines.Namespace path symbol by) = in_plan path
-is_obstacle kinds.Double in_plan there line = collides (λ path. in_plan path || there path) in_plan line
+is_obstacle kinds.Double in_plan there line =
+    collides (λ path. in_plan path || there path) in_plan line
 is_obstacle kind in_plan there line = false
 
 -- The first line of a kind that is an obstacle.
-abbrev pub first_line : LineKind → (List ℕ → Bool) → (List ℕ → Bool) → List Unbound → Option PlanObstacle
-first_line kind in_plan there unmet = option_map unbound_line (find (is_obstacle kind in_plan there) unmet)
+abbrev pub first_line : LineKind → (List ℕ → Bool) → (List ℕ → Bool) → List Unbound
+    → Option PlanObstacle
+first_line kind in_plan there unmet =
+    option_map unbound_line (find (is_obstacle kind in_plan there) unmet)
 
 -- The first line of a kind that is an obstacle to what is planned.
 abbrev pub line_of : Sources → List Found → LineKind → Option PlanObstacle
-line_of s founds kind = first_line kind (is_path_of (modules s) (planned s founds)) (stands s) s.unmet
+line_of s founds kind =
+    first_line kind (is_path_of (modules s) (planned s founds)) (stands s) s.unmet
 
 -- The cycle of some modules, if there are any.
 abbrev pub cycle_obstacle : List (List ℕ) → Option PlanObstacle
@@ -81,7 +87,8 @@ unfoldable pub obstacle_of : Sources → Request → Option PlanObstacle
 obstacle_of s request = first (
     option_map bad_dep_line (bad_name s.maps.dep)
     ∷ option_map not_found (find (is_unfound s) request.names)
-    ∷ option_map not_found (find (is_unknown s request.ignore_install) (all_names (found_for s request)))
+    ∷ option_map not_found
+    (find (is_unknown s request.ignore_install) (all_names (found_for s request)))
     ∷ plan_tests s (found_for s request))
 
 -- An obstacle as the code answers it.

@@ -1,10 +1,12 @@
 // What keeps a request from having a plan.
-ghost use Rattle.std.specs.Prelude.{◌≡◌, ◌<◌, ◌⊎◌, ◌||◌, ℕ, List, length, All, Some, None, IfOk, IfErr, OnOk, option_map};
+ghost use Rattle.std.specs.Prelude.{◌≡◌, ◌<◌, ◌⊎◌, ◌||◌, ℕ, List, length, All, Some, None, IfOk};
+ghost use Rattle.std.specs.Prelude.{IfErr, OnOk, option_map};
 ghost use Rattle.km_names.specs.First.{first as first_spec};
 ghost use Rattle.symbol_binding.specs.Unmet.{collides};
 ghost use Rattle.name_table.specs.FirstSeen.{is_among};
 ghost use Rattle.relation_order.specs.Sets.{marked};
-ghost use Rattle.plan_builder.specs.Obstacles.{is_path_of, is_obstacle, as_obstacle, first_line, stands, unbound_line};
+ghost use Rattle.plan_builder.specs.Obstacles.{is_path_of, is_obstacle, as_obstacle, first_line};
+ghost use Rattle.plan_builder.specs.Obstacles.{stands, unbound_line};
 ghost use Rattle.planned_modules.specs.Needs.{modules as modules_spec};
 ghost use Rattle.plan_builder.specs.Answers.{need_tests};
 ghost use Rattle.planned_modules.specs.Planner.{sources_of};
@@ -35,8 +37,13 @@ pub(crate) fn compared_paths<'a>(
     marks: &[bool],
 ) -> Result<ComparedPaths<'a>, AllocError>
     requires { length marks.now ≡ length (modules_spec (sources_of planner.now)) }
-    ensures planned { IfOk result (λ paths. (path : List ℕ) → is_among paths.planned path ≡ is_path_of (modules_spec (sources_of planner.now)) (marked marks.now) path) }
-    ensures there { IfOk result (λ paths. (path : List ℕ) → is_among paths.there path ≡ stands (sources_of planner.now) path) }
+    ensures planned { IfOk result
+        (λ paths. (path : List ℕ)
+        → is_among paths.planned path
+        ≡ is_path_of (modules_spec (sources_of planner.now)) (marked marks.now) path) }
+    ensures there { IfOk result
+        (λ paths. (path : List ℕ)
+        → is_among paths.there path ≡ stands (sources_of planner.now) path) }
 {
     let planned = marked_paths(alloc, planner, marks)?;
     let there = standing_paths(alloc, planner)?;
@@ -50,7 +57,10 @@ fn marked_paths<'a>(
     marks: &[bool],
 ) -> Result<NameSet<'a>, AllocError>
     requires { length marks.now ≡ length (modules_spec (sources_of planner.now)) }
-    ensures { IfOk result (λ paths. (path : List ℕ) → is_among paths path ≡ is_path_of (modules_spec (sources_of planner.now)) (marked marks.now) path) }
+    ensures { IfOk result
+        (λ paths. (path : List ℕ)
+        → is_among paths path
+        ≡ is_path_of (modules_spec (sources_of planner.now)) (marked marks.now) path) }
 {
     let places = marked(alloc, marks)?;
     let paths = paths_of(alloc, planner.modules(), &places)?;
@@ -64,7 +74,8 @@ fn paths_of<'a>(
     places: &[usize],
 ) -> Result<NameSet<'a>, AllocError>
     requires { All (λ y. y < length modules.now) places.now }
-    ensures { IfOk result (λ paths. (path : List ℕ) → is_among paths path ≡ is_path_of modules.now places.now path) }
+    ensures { IfOk result
+        (λ paths. (path : List ℕ) → is_among paths path ≡ is_path_of modules.now places.now path) }
 {
     let mut paths = NameSet::new(alloc);
     for place in places {
@@ -75,7 +86,8 @@ fn paths_of<'a>(
 
 /// Returns the paths of loaded modules, and the kernel's.
 fn standing_paths<'a>(alloc: Global, planner: &Planner<'a>) -> Result<NameSet<'a>, AllocError>
-    ensures { IfOk result (λ paths. (path : List ℕ) → is_among paths path ≡ stands (sources_of planner.now) path) }
+    ensures { IfOk result
+        (λ paths. (path : List ℕ) → is_among paths path ≡ stands (sources_of planner.now) path) }
 {
     let places = planner.modules().places_of(alloc, planner.loaded())?;
     let mut paths = paths_of(alloc, planner.modules(), &places)?;
@@ -90,8 +102,14 @@ pub(crate) fn check_needs(
     planned: &NameSet<'_>,
     there: &NameSet<'_>,
 ) -> Result<(), Obstacle>
-    ensures passed { OnOk result (first_spec (need_tests (is_among planned.now) (is_among there.now) unmet.now) ≡ None) }
-    ensures err { IfErr result (λ o. (o ≡ Obstacle.Memory) ⊎ (option_map as_obstacle (first_spec (need_tests (is_among planned.now) (is_among there.now) unmet.now)) ≡ Some o)) }
+    ensures passed { OnOk result
+        (first_spec (need_tests (is_among planned.now) (is_among there.now) unmet.now) ≡ None) }
+    ensures err { IfErr result
+        (λ o. (o ≡ Obstacle.Memory)
+        ⊎ (option_map as_obstacle
+        (first_spec
+        (need_tests (is_among planned.now) (is_among there.now) unmet.now))
+        ≡ Some o)) }
 {
     check_unmet(alloc, LineKind::Missing, unmet, planned, there)?;
     check_unmet(alloc, LineKind::Gpl, unmet, planned, there)?;
@@ -108,8 +126,13 @@ pub(crate) fn check_unmet(
     planned: &NameSet<'_>,
     there: &NameSet<'_>,
 ) -> Result<(), Obstacle>
-    ensures passed { OnOk result (first_line kind (is_among planned.now) (is_among there.now) unmet.now ≡ None) }
-    ensures err { IfErr result (λ o. (o ≡ Obstacle.Memory) ⊎ (option_map as_obstacle (first_line kind (is_among planned.now) (is_among there.now) unmet.now) ≡ Some o)) }
+    ensures passed { OnOk result
+        (first_line kind (is_among planned.now) (is_among there.now) unmet.now ≡ None) }
+    ensures err { IfErr result
+        (λ o. (o ≡ Obstacle.Memory)
+        ⊎ (option_map as_obstacle
+        (first_line kind (is_among planned.now) (is_among there.now) unmet.now)
+        ≡ Some o)) }
 {
     for line in unmet {
         if is_obstacle(kind, line, planned, there) {
@@ -152,7 +175,8 @@ fn is_obstacle(kind: LineKind, line: &Unbound, planned: &NameSet<'_>, there: &Na
 /// before.
 fn collides(planned: &NameSet<'_>, there: &NameSet<'_>, first: &[u8], second: &[u8]) -> bool
     ensures { (symbol : List ℕ) → result
-        ≡ collides (λ path. is_among planned.now path || is_among there.now path) (is_among planned.now) (Unbound.Double symbol first.now second.now) }
+        ≡ collides (λ path. is_among planned.now path || is_among there.now path)
+        (is_among planned.now) (Unbound.Double symbol first.now second.now) }
 {
     let has_first = planned.contains(first);
     let has_second = planned.contains(second);

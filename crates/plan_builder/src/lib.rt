@@ -14,8 +14,8 @@
 //!
 //! The crate builds on `planned_modules` for what names stand for and what is planned for them in
 //! which order, on `dependency_lines` for the modules of a folder, and on `symbol_binding` for the
-//! lines of modules.unmet. `well_formed` comes from `dependency_lines`, `Loaded` from `loaded_list`,
-//! `Unmet` from `unmet_file`, and `line_path` from `mod_tree`.
+//! lines of modules.unmet. `well_formed` comes from `dependency_lines`, `Loaded` from
+//! `loaded_list`, `Unmet` from `unmet_file`, and `line_path` from `mod_tree`.
 #![tactic(auto)]
 
 mod check;

@@ -13,7 +13,8 @@ pub(crate) fn member_names<'a>(
     alloc: Global,
     founds: &'a [Found],
 ) -> Result<NameSet<'a>, AllocError>
-    ensures { IfOk result (λ names. (name : List ℕ) → is_among names name ≡ is_member_of founds.now name) }
+    ensures { IfOk result
+        (λ names. (name : List ℕ) → is_among names name ≡ is_member_of founds.now name) }
 {
     let mut names = NameSet::new(alloc);
     for found in founds {
@@ -24,7 +25,9 @@ pub(crate) fn member_names<'a>(
 
 /// Puts names into a set.
 pub(crate) fn insert_all<'a>(names: &mut NameSet<'a>, more: &'a Names) -> Result<(), AllocError>
-    ensures { OnOk result ((name : List ℕ) → is_among names.new name ≡ (is_among names.old name || is_among more.now name)) }
+    ensures { OnOk result
+        ((name : List ℕ)
+        → is_among names.new name ≡ (is_among names.old name || is_among more.now name)) }
 {
     for name in more.as_slice() {
         names.insert(name.as_bytes())?;

@@ -1,4 +1,5 @@
-ghost use Rattle.std.specs.Prelude.{◌≡◌, ◌<◌, ◌⊎◌, ℕ, List, Some, None, map, length, All, IfOk, IfErr, OnOk, option_map};
+ghost use Rattle.std.specs.Prelude.{◌≡◌, ◌<◌, ◌⊎◌, ℕ, List, Some, None, map, length, All, IfOk};
+ghost use Rattle.std.specs.Prelude.{IfErr, OnOk, option_map};
 ghost use Rattle.km_names.specs.First.{first};
 ghost use Rattle.name_table.specs.FirstSeen.{is_among};
 ghost use Rattle.plan_order.specs.Lists.{among};
@@ -9,7 +10,8 @@ ghost use Rattle.planned_modules.specs.Needs.{modules as modules_spec, before, a
 ghost use Rattle.planned_modules.specs.Members.{asked, planned as planned_spec};
 ghost use Rattle.plan_builder.specs.Steps.{plan_steps};
 ghost use Rattle.plan_builder.specs.Closed.{IsClosedPlan};
-ghost use Rattle.plan_builder.specs.Obstacles.{as_obstacle, is_path_of, stands, plan_tests, obstacle_of};
+ghost use Rattle.plan_builder.specs.Obstacles.{as_obstacle, is_path_of, stands, plan_tests};
+ghost use Rattle.plan_builder.specs.Obstacles.{obstacle_of};
 ghost use Rattle.plan_builder.specs.Answers.{ShortCycle, IsCycleOf};
 ghost use Rattle.plan_builder.specs.Sources.{sources};
 ghost use Rattle.planned_modules.specs.Planner.{sources_of};
@@ -66,10 +68,22 @@ pub fn plan(
     unmet: &Unmet,
     loaded: &Loaded,
 ) -> Result<PlanSteps, Obstacle>
-    ensures plan { IfOk result (λ steps. steps ≡ plan_steps (sources rules.now indexes.now unmet.now loaded.now request.now) request.now) }
-    ensures passed { OnOk result (obstacle_of (sources rules.now indexes.now unmet.now loaded.now request.now) request.now ≡ None) }
-    ensures closed { IfOk result (IsClosedPlan (sources rules.now indexes.now unmet.now loaded.now request.now)) }
-    ensures err { IfErr result (λ o. (o ≡ Obstacle.Memory) ⊎ (option_map as_obstacle (obstacle_of (sources rules.now indexes.now unmet.now loaded.now request.now) request.now) ≡ Some o)) }
+    ensures plan { IfOk result
+        (λ steps. steps
+        ≡ plan_steps (sources rules.now indexes.now unmet.now loaded.now request.now)
+        request.now) }
+    ensures passed { OnOk result
+        (obstacle_of (sources rules.now indexes.now unmet.now loaded.now request.now) request.now
+        ≡ None) }
+    ensures closed { IfOk result
+        (IsClosedPlan (sources rules.now indexes.now unmet.now loaded.now request.now)) }
+    ensures err { IfErr result
+        (λ o. (o ≡ Obstacle.Memory)
+        ⊎ (option_map as_obstacle
+        (obstacle_of
+        (sources rules.now indexes.now unmet.now loaded.now request.now)
+        request.now)
+        ≡ Some o)) }
 {
     let lines = DependencyLines::read(alloc, &indexes.dep)?;
     let modules = Modules::new(alloc, &lines)?;
@@ -88,10 +102,22 @@ fn planned_over(
 ) -> Result<PlanSteps, Obstacle>
     requires modules { modules.now ≡ modules_of (maps_of indexes.now).dep }
     requires sound { bad_name (maps_of indexes.now).dep ≡ None }
-    ensures plan { IfOk result (λ steps. steps ≡ plan_steps (sources rules.now indexes.now unmet.now loaded.now request.now) request.now) }
-    ensures passed { OnOk result (obstacle_of (sources rules.now indexes.now unmet.now loaded.now request.now) request.now ≡ None) }
-    ensures closed { IfOk result (IsClosedPlan (sources rules.now indexes.now unmet.now loaded.now request.now)) }
-    ensures err { IfErr result (λ o. (o ≡ Obstacle.Memory) ⊎ (option_map as_obstacle (obstacle_of (sources rules.now indexes.now unmet.now loaded.now request.now) request.now) ≡ Some o)) }
+    ensures plan { IfOk result
+        (λ steps. steps
+        ≡ plan_steps (sources rules.now indexes.now unmet.now loaded.now request.now)
+        request.now) }
+    ensures passed { OnOk result
+        (obstacle_of (sources rules.now indexes.now unmet.now loaded.now request.now) request.now
+        ≡ None) }
+    ensures closed { IfOk result
+        (IsClosedPlan (sources rules.now indexes.now unmet.now loaded.now request.now)) }
+    ensures err { IfErr result
+        (λ o. (o ≡ Obstacle.Memory)
+        ⊎ (option_map as_obstacle
+        (obstacle_of
+        (sources rules.now indexes.now unmet.now loaded.now request.now)
+        request.now)
+        ≡ Some o)) }
 {
     let planner = Planner::new(
         alloc,
@@ -115,7 +141,10 @@ fn planned_steps(
     ensures plan { IfOk result (λ steps. steps ≡ plan_steps (sources_of planner.now) request.now) }
     ensures passed { OnOk result (obstacle_of (sources_of planner.now) request.now ≡ None) }
     ensures closed { IfOk result (IsClosedPlan (sources_of planner.now)) }
-    ensures err { IfErr result (λ o. (o ≡ Obstacle.Memory) ⊎ (option_map as_obstacle (obstacle_of (sources_of planner.now) request.now) ≡ Some o)) }
+    ensures err { IfErr result
+        (λ o. (o ≡ Obstacle.Memory)
+        ⊎ (option_map as_obstacle (obstacle_of (sources_of planner.now) request.now)
+        ≡ Some o)) }
 {
     let founds = find_each(alloc, planner, &request.names)?;
     check_known(alloc, planner, request.ignore_install, &founds)?;
@@ -132,7 +161,8 @@ fn order_of(
 ) -> Result<GroupedOrder, Obstacle>
     requires { ShortCycle (length (modules_spec (sources_of planner.now))) answer }
     ensures order { IfOk result (λ order. answer ≡ PlanOrCycle.Plan order) }
-    ensures err { IfErr result (λ o. (o ≡ Obstacle.Memory) ⊎ IsCycleOf (modules_spec (sources_of planner.now)) answer o) }
+    ensures err { IfErr result
+        (λ o. (o ≡ Obstacle.Memory) ⊎ IsCycleOf (modules_spec (sources_of planner.now)) answer o) }
 {
     match answer {
         PlanOrCycle::Plan(order) => Ok(order),
@@ -161,9 +191,14 @@ fn checked_plan(
     planner: &Planner<'_>,
     founds: &[Found],
 ) -> Result<GroupedOrder, Obstacle>
-    ensures plan { IfOk result (IsPlan (among (before (sources_of planner.now))) (unloaded (sources_of planner.now)) (after (sources_of planner.now)) (asked (sources_of planner.now) founds.now)) }
+    ensures plan { IfOk result
+        (IsPlan (among (before (sources_of planner.now))) (unloaded (sources_of planner.now))
+        (after (sources_of planner.now)) (asked (sources_of planner.now) founds.now)) }
     ensures passed { OnOk result (first (plan_tests (sources_of planner.now) founds.now) ≡ None) }
-    ensures err { IfErr result (λ o. (o ≡ Obstacle.Memory) ⊎ (option_map as_obstacle (first (plan_tests (sources_of planner.now) founds.now)) ≡ Some o)) }
+    ensures err { IfErr result
+        (λ o. (o ≡ Obstacle.Memory)
+        ⊎ (option_map as_obstacle (first (plan_tests (sources_of planner.now) founds.now))
+        ≡ Some o)) }
 {
     let Planning { marks, answer } = planned_answer(alloc, planner, founds)?;
     if planner.unmet().is_empty() {
@@ -173,8 +208,8 @@ fn checked_plan(
     checked_order(alloc, planner, founds, answer, &paths)
 }
 
-/// Returns the order that was found, unless there is a cycle. modules.unmet has no line. `founds` is
-/// only for the contract.
+/// Returns the order that was found, unless there is a cycle. modules.unmet has no line. `founds`
+/// is only for the contract.
 fn order_without_lines(
     alloc: Global,
     planner: &Planner<'_>,
@@ -182,10 +217,17 @@ fn order_without_lines(
     answer: PlanOrCycle,
 ) -> Result<GroupedOrder, Obstacle>
     requires lines { length (sources_of planner.now).unmet ≡ 0 }
-    requires answer { IsAnswer (among (before (sources_of planner.now))) (unloaded (sources_of planner.now)) (after (sources_of planner.now)) (asked (sources_of planner.now) founds.now) answer }
-    ensures plan { IfOk result (IsPlan (among (before (sources_of planner.now))) (unloaded (sources_of planner.now)) (after (sources_of planner.now)) (asked (sources_of planner.now) founds.now)) }
+    requires answer { IsAnswer (among (before (sources_of planner.now)))
+        (unloaded (sources_of planner.now)) (after (sources_of planner.now))
+        (asked (sources_of planner.now) founds.now) answer }
+    ensures plan { IfOk result
+        (IsPlan (among (before (sources_of planner.now))) (unloaded (sources_of planner.now))
+        (after (sources_of planner.now)) (asked (sources_of planner.now) founds.now)) }
     ensures passed { OnOk result (first (plan_tests (sources_of planner.now) founds.now) ≡ None) }
-    ensures err { IfErr result (λ o. (o ≡ Obstacle.Memory) ⊎ (option_map as_obstacle (first (plan_tests (sources_of planner.now) founds.now)) ≡ Some o)) }
+    ensures err { IfErr result
+        (λ o. (o ≡ Obstacle.Memory)
+        ⊎ (option_map as_obstacle (first (plan_tests (sources_of planner.now) founds.now))
+        ≡ Some o)) }
 {
     let order = order_of(alloc, planner, answer)?;
     Ok(order)
@@ -200,12 +242,23 @@ fn checked_order(
     answer: PlanOrCycle,
     paths: &ComparedPaths<'_>,
 ) -> Result<GroupedOrder, Obstacle>
-    requires answer { IsAnswer (among (before (sources_of planner.now))) (unloaded (sources_of planner.now)) (after (sources_of planner.now)) (asked (sources_of planner.now) founds.now) answer }
-    requires planned { (path : List ℕ) → is_among paths.now.planned path ≡ is_path_of (modules_spec (sources_of planner.now)) (planned_spec (sources_of planner.now) founds.now) path }
-    requires there { (path : List ℕ) → is_among paths.now.there path ≡ stands (sources_of planner.now) path }
-    ensures plan { IfOk result (IsPlan (among (before (sources_of planner.now))) (unloaded (sources_of planner.now)) (after (sources_of planner.now)) (asked (sources_of planner.now) founds.now)) }
+    requires answer { IsAnswer (among (before (sources_of planner.now)))
+        (unloaded (sources_of planner.now)) (after (sources_of planner.now))
+        (asked (sources_of planner.now) founds.now) answer }
+    requires planned { (path : List ℕ)
+        → is_among paths.now.planned path
+        ≡ is_path_of (modules_spec (sources_of planner.now))
+        (planned_spec (sources_of planner.now) founds.now) path }
+    requires there { (path : List ℕ)
+        → is_among paths.now.there path ≡ stands (sources_of planner.now) path }
+    ensures plan { IfOk result
+        (IsPlan (among (before (sources_of planner.now))) (unloaded (sources_of planner.now))
+        (after (sources_of planner.now)) (asked (sources_of planner.now) founds.now)) }
     ensures passed { OnOk result (first (plan_tests (sources_of planner.now) founds.now) ≡ None) }
-    ensures err { IfErr result (λ o. (o ≡ Obstacle.Memory) ⊎ (option_map as_obstacle (first (plan_tests (sources_of planner.now) founds.now)) ≡ Some o)) }
+    ensures err { IfErr result
+        (λ o. (o ≡ Obstacle.Memory)
+        ⊎ (option_map as_obstacle (first (plan_tests (sources_of planner.now) founds.now))
+        ≡ Some o)) }
 {
     let unmet = planner.unmet();
     check_needs(alloc, unmet, &paths.planned, &paths.there)?;

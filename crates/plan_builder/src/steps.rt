@@ -1,5 +1,6 @@
 // The steps of a plan.
-ghost use Rattle.std.specs.Prelude.{◌≡◌, ◌<◌, ◌&&◌, ◌++◌, [], ℕ, List, map, length, All, IfOk, OnOk};
+ghost use Rattle.std.specs.Prelude.{◌≡◌, ◌<◌, ◌&&◌, ◌++◌, [], ℕ, List, map, length, All, IfOk};
+ghost use Rattle.std.specs.Prelude.{OnOk};
 ghost use Rattle.std.specs.List.{flat_map};
 ghost use Rattle.name_table.specs.FirstSeen.{is_among};
 ghost use Rattle.dependency_lines.specs.Modules.{name_at, path_at};
@@ -7,7 +8,8 @@ ghost use Rattle.planned_modules.specs.Needs.{modules};
 ghost use Rattle.plan_builder.specs.Requested.{found_for, is_member};
 ghost use Rattle.planned_modules.specs.Planner.{sources_of};
 ghost use Rattle.plan_builder.specs.Tables.{byte_texts};
-ghost use Rattle.plan_builder.specs.Steps.{rule_options, options_of, module_step, own_step, own_step_unless, own_steps};
+ghost use Rattle.plan_builder.specs.Steps.{rule_options, options_of, module_step, own_step};
+ghost use Rattle.plan_builder.specs.Steps.{own_step_unless, own_steps};
 ghost use Rattle.plan_builder.specs.Ends.{RisingEnds, steps_by};
 
 use crate::members::{insert_all, member_names};
@@ -27,7 +29,8 @@ fn rule_texts<'a>(
     rules: &'a RuleTable<'_>,
     name: &[u8],
 ) -> Result<Vec<&'a [u8]>, AllocError>
-    ensures { IfOk result (λ texts. byte_texts texts.items ≡ flat_map (rule_options name.now) rules.now) }
+    ensures { IfOk result
+        (λ texts. byte_texts texts.items ≡ flat_map (rule_options name.now) rules.now) }
 {
     let mut texts = Vec::new(alloc);
     let own = rules.on(name);
@@ -38,7 +41,9 @@ fn rule_texts<'a>(
 }
 
 fn push_text<'a>(texts: &mut Vec<&'a [u8]>, rule: &'a Rule, wanted: &[u8]) -> Result<(), AllocError>
-    ensures { OnOk result (byte_texts texts.new.items ≡ byte_texts texts.old.items ++ rule_options wanted.now rule.now) }
+    ensures { OnOk result
+        (byte_texts texts.new.items
+        ≡ byte_texts texts.old.items ++ rule_options wanted.now rule.now) }
 {
     match rule {
         Rule::Options { name, text } if name.as_bytes() == wanted => {

@@ -50,7 +50,8 @@ impl Obstacle {
 
 /// Returns the text of a line on a symbol that nobody exports.
 fn missing(alloc: Global, path: &PathText, symbol: &Name) -> Result<Blob, AllocError>
-    ensures { IfOk result (λ text. text ≡ two_text (first_word LineKind.Missing) (two_text path.now symbol.now)) }
+    ensures { IfOk result
+        (λ text. text ≡ two_text (first_word LineKind.Missing) (two_text path.now symbol.now)) }
 {
     let word = LineKind::Missing.word();
     three(alloc, word, path.as_bytes(), symbol.as_bytes())
@@ -64,7 +65,8 @@ fn provided(
     symbol: &Name,
     provider: &PathText,
 ) -> Result<Blob, AllocError>
-    ensures { IfOk result (λ text. text ≡ two_text (first_word kind) (three_text path.now symbol.now provider.now)) }
+    ensures { IfOk result
+        (λ text. text ≡ two_text (first_word kind) (three_text path.now symbol.now provider.now)) }
 {
     four(
         alloc,
@@ -82,7 +84,9 @@ fn double(
     first: &PathText,
     second: &PathText,
 ) -> Result<Blob, AllocError>
-    ensures { IfOk result (λ text. text ≡ two_text (first_word LineKind.Double) (three_text symbol.now first.now second.now)) }
+    ensures { IfOk result
+        (λ text. text
+        ≡ two_text (first_word LineKind.Double) (three_text symbol.now first.now second.now)) }
 {
     four(
         alloc,

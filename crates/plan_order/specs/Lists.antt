@@ -16,10 +16,13 @@ among before x y = has (before x) y
 
 -- Exactly what is planned is marked, and for each planned module the lists have what it needs. All
 -- lists have only modules below a number.
-pub record IsPlanned (count : ℕ) (before : ℕ → List ℕ) (set : List ℕ) (after : ℕ → List ℕ) (requests : List (List ℕ)) (p : Planned) : Type 0 where
+pub record IsPlanned (count : ℕ) (before : ℕ → List ℕ) (set : List ℕ) (after : ℕ → List ℕ)
+    (requests : List (List ℕ)) (p : Planned) : Type 0 where
   pub marks : marked p.marks.items ≡ planned (among before) set after requests
-  pub comes_before : (x : ℕ) → has (planned (among before) set after requests) x ≡ true → successors p.before.items x ≡ before x
-  pub wanted_after : (x : ℕ) → has (planned (among before) set after requests) x ≡ true → successors p.after.items x ≡ after x
+  pub comes_before : (x : ℕ) → has (planned (among before) set after requests) x ≡ true
+      → successors p.before.items x ≡ before x
+  pub wanted_after : (x : ℕ) → has (planned (among before) set after requests) x ≡ true
+      → successors p.after.items x ≡ after x
   pub marks_long : length p.marks.items ≡ count
   pub before_long : length p.before.items ≡ count
   pub after_long : length p.after.items ≡ count

@@ -12,4 +12,5 @@ IsPlaceIn members item None = has members item ≡ false
 -- The members' places go to each other in the lists as the members do.
 abbrev pub GoLike : Relation → List ℕ → List (Vec ℕ) → Type 0
 GoLike r members lists =
-    (i j : ℕ) → i < length members → j < length members → goes lists i j ≡ r (slice_index members i) (slice_index members j)
+    (i j : ℕ) → i < length members → j < length members
+    → goes lists i j ≡ r (slice_index members i) (slice_index members j)

@@ -1,7 +1,8 @@
 -- Plans: which modules are loaded, and in which order. The relation `r` says what comes before a
 -- module. `set` has the modules that aren't loaded, and `post` the modules that are asked for after
 -- a module. A request is a list of modules. modprobe(8), modprobe.d(5), "softdep".
-use Rattle.std.specs.Prelude.{ℕ, zero, suc, List, [], ◌∷◌, ◌++◌, Bool, ◌||◌, not, map, length, filter, slice_index_or}
+use Rattle.std.specs.Prelude.{ℕ, zero, suc, List, [], ◌∷◌, ◌++◌, Bool, ◌||◌, not, map, length}
+use Rattle.std.specs.Prelude.{filter, slice_index_or}
 use Rattle.std.specs.List.{fold, list_any}
 use Rattle.relation_order.specs.Sets.{Relation, has}
 use Rattle.relation_order.specs.Spread.{spread}
@@ -54,7 +55,8 @@ post_at post plan k = slice_index_or (map post plan) k []
 abbrev pub plan_after : Relation → List ℕ → (ℕ → List ℕ) → List (List ℕ) → ℕ → List ℕ
 plan_after r set post requests zero = with_groups r set [] requests
 plan_after r set post requests (suc k) =
-    with_groups r set (plan_after r set post requests k) (singles (post_at post (plan_after r set post requests k) k))
+    with_groups r set (plan_after r set post requests k)
+    (singles (post_at post (plan_after r set post requests k) k))
 
 -- The plan: the groups of the requests, and then the groups of what is asked for after the plan's
 -- modules, in the plan's order.

@@ -10,4 +10,5 @@ abbrev pub queued : Relation → List ℕ → (ℕ → List ℕ) → ℕ → Lis
 queued r set post zero done queue = done
 queued r set post (suc k) done [] = done
 queued r set post (suc k) done (request ∷ queue) =
-    queued r set post k (done ++ group r set done request) (queue ++ singles (flat_map post (group r set done request)))
+    queued r set post k (done ++ group r set done request)
+    (queue ++ singles (flat_map post (group r set done request)))

@@ -58,7 +58,9 @@ fn lists_among(
 fn places_of(alloc: Global, members: &[usize], items: &[usize]) -> Result<Vec<usize>, AllocError>
     requires { Rises members.now }
     ensures inside { IfOk result (λ places. All (λ i. i < length members.now) places.items) }
-    ensures places { IfOk result (λ places. (i : ℕ) → i < length members.now → has places.items i ≡ has items.now (slice_index members.now i)) }
+    ensures places { IfOk result
+        (λ places. (i : ℕ) → i < length members.now
+        → has places.items i ≡ has items.now (slice_index members.now i)) }
 {
     let mut places = Vec::new(alloc);
     for item in items {

@@ -1,9 +1,11 @@
-ghost use Rattle.std.specs.Prelude.{◌≡◌, ◌<◌, [], suc, take, slice_index, ℕ, List, length, All, IfOk, OnOk, true};
+ghost use Rattle.std.specs.Prelude.{◌≡◌, ◌<◌, [], suc, take, slice_index, ℕ, List, length, All};
+ghost use Rattle.std.specs.Prelude.{IfOk, OnOk, true};
 ghost use Rattle.std.specs.Global.{Vec};
 ghost use Rattle.relation_order.specs.Sets.{has, goes, marked};
 ghost use Rattle.relation_order.specs.Search.{Inside, Marks};
 ghost use Rattle.relation_order.specs.Placing.{Closed};
-ghost use Rattle.plan_order.specs.Plan.{members as members_spec, group, with_group, with_groups, singles};
+ghost use Rattle.plan_order.specs.Plan.{members as members_spec, group, with_group, with_groups};
+ghost use Rattle.plan_order.specs.Plan.{singles};
 ghost use Rattle.plan_order.specs.Lists.{items_of};
 ghost use Rattle.plan_order.specs.NoCycle.{NoCycle};
 ghost use Rattle.plan_order.specs.Finding.{FoundMore};
@@ -37,7 +39,8 @@ fn find_group(
     requires closed { Closed (goes lists.now) (marked free.now) found.old.items }
     ensures long { OnOk result (length seen.new.items ≡ length seen.old.items) }
     ensures marks { OnOk result (Marks found.new.items seen.new.items) }
-    ensures found { OnOk result (FoundMore (goes lists.now) (marked free.now) request.now found.old.items found.new.items) }
+    ensures found { OnOk result
+        (FoundMore (goes lists.now) (marked free.now) request.now found.old.items found.new.items) }
 {
     let mut next = found.len();
     find_all(seen, found, free, request)?;
@@ -53,7 +56,9 @@ impl Groups {
     /// Begins without groups.
     pub(crate) fn new(alloc: Global, count: usize) -> Result<Groups, AllocError>
         ensures order { IfOk result (λ groups. groups.order.items ≡ []) }
-        ensures whole { IfOk result (λ groups. (lists : List (Vec ℕ)) (set : List ℕ) → Whole (goes lists) set count groups) }
+        ensures whole { IfOk result
+            (λ groups. (lists : List (Vec ℕ)) (set : List ℕ)
+            → Whole (goes lists) set count groups) }
     {
         Ok(Groups {
             found: Vec::new(alloc),
@@ -74,9 +79,17 @@ impl Groups {
         requires inside { Inside (length lists.now) lists.now }
         requires request { All (λ y. y < length lists.now) request.now }
         requires whole { Whole (goes lists.now) (marked free.now) (length lists.now) self.old }
-        requires all { (y : ℕ) → has (members_spec (goes lists.now) (marked free.now) self.old.order.items request.now) y ≡ true → has (group (goes lists.now) (marked free.now) self.old.order.items request.now) y ≡ true }
-        ensures order { OnOk result (self.new.order.items ≡ with_group (goes lists.now) (marked free.now) self.old.order.items request.now) }
-        ensures whole { OnOk result (Whole (goes lists.now) (marked free.now) (length lists.now) self.new) }
+        requires all { (y : ℕ)
+            → has (members_spec (goes lists.now) (marked free.now) self.old.order.items request.now)
+            y
+            ≡ true
+            → has (group (goes lists.now) (marked free.now) self.old.order.items request.now) y
+            ≡ true }
+        ensures order { OnOk result
+            (self.new.order.items
+            ≡ with_group (goes lists.now) (marked free.now) self.old.order.items request.now) }
+        ensures whole { OnOk result
+            (Whole (goes lists.now) (marked free.now) (length lists.now) self.new) }
     {
         let start = self.found.len();
         find_group(&mut self.seen, &mut self.found, lists, free, request)?;
@@ -101,9 +114,17 @@ impl Groups {
         requires whole { Whole (goes lists.now) (marked free.now) (length lists.now) self.old }
         requires cycle { NoCycle (goes lists.now) (marked free.now) (items_of requests.now) }
         ensures long { IfOk result (λ ends. length ends.items ≡ length requests.now) }
-        ensures ends { IfOk result (λ ends. (k : ℕ) → k < length requests.now → slice_index ends.items k ≡ length (with_groups (goes lists.now) (marked free.now) self.old.order.items (items_of (take (suc k) requests.now)))) }
-        ensures order { OnOk result (self.new.order.items ≡ with_groups (goes lists.now) (marked free.now) self.old.order.items (items_of requests.now)) }
-        ensures whole { OnOk result (Whole (goes lists.now) (marked free.now) (length lists.now) self.new) }
+        ensures ends { IfOk result
+            (λ ends. (k : ℕ) → k < length requests.now
+            → slice_index ends.items k
+            ≡ length (with_groups (goes lists.now) (marked free.now) self.old.order.items
+            (items_of (take (suc k) requests.now)))) }
+        ensures order { OnOk result
+            (self.new.order.items
+            ≡ with_groups (goes lists.now) (marked free.now) self.old.order.items
+            (items_of requests.now)) }
+        ensures whole { OnOk result
+            (Whole (goes lists.now) (marked free.now) (length lists.now) self.new) }
     {
         let mut ends = Vec::new(alloc);
         for request in requests {
@@ -126,8 +147,12 @@ impl Groups {
         requires modules { All (λ y. y < length lists.now) modules.now }
         requires whole { Whole (goes lists.now) (marked free.now) (length lists.now) self.old }
         requires cycle { NoCycle (goes lists.now) (marked free.now) (singles modules.now) }
-        ensures order { OnOk result (self.new.order.items ≡ with_groups (goes lists.now) (marked free.now) self.old.order.items (singles modules.now)) }
-        ensures whole { OnOk result (Whole (goes lists.now) (marked free.now) (length lists.now) self.new) }
+        ensures order { OnOk result
+            (self.new.order.items
+            ≡ with_groups (goes lists.now) (marked free.now) self.old.order.items
+            (singles modules.now)) }
+        ensures whole { OnOk result
+            (Whole (goes lists.now) (marked free.now) (length lists.now) self.new) }
     {
         for module in modules {
             self.add(alloc, lists, free, &[*module])?;

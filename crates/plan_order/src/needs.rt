@@ -59,7 +59,9 @@ pub fn find_planned<N: Needs>(
 ) -> Result<Planned, AllocError>
     requires free { length free.now ≡ N.count needs.now }
     requires requests { Inside (N.count needs.now) requests.now }
-    ensures { IfOk result (IsPlanned (N.count needs.now) (N.before needs.now) (marked free.now) (N.after needs.now) (items_of requests.now)) }
+    ensures { IfOk result
+        (IsPlanned (N.count needs.now) (N.before needs.now) (marked free.now) (N.after needs.now)
+        (items_of requests.now)) }
 {
     let mut marks = unmarked(alloc, free.len())?;
     let mut before = empty_lists(alloc, free.len())?;
@@ -94,7 +96,9 @@ fn find_requested(
     requires marks { Marks [] marks.old.items }
     requires found { found.old.items ≡ [] }
     requires requests { Inside (length free.now) requests.now }
-    ensures asked { OnOk result (Asked (length free.now) free.now requests.now (length requests.now) found.new.items marks.new.items) }
+    ensures asked { OnOk result
+        (Asked (length free.now) free.now requests.now (length requests.now) found.new.items
+        marks.new.items) }
 {
     for request in requests {
         find_all(marks, found, free, request)?;

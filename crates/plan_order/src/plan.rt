@@ -39,10 +39,13 @@ pub fn plan_or_cycle(
     free: &[bool],
     requests: &[Vec<usize>],
 ) -> Result<PlanOrCycle, AllocError>
-    requires known { AreKnown (length free.now) (marked_spec free.now) (items_of requests.now) planned.now }
+    requires known { AreKnown (length free.now) (marked_spec free.now) (items_of requests.now)
+        planned.now }
     requires requests { Inside (length free.now) requests.now }
     ensures { IfOk result (λ answer. (before after : ℕ → List ℕ) →
-        IsPlanned (length free.now) before (marked_spec free.now) after (items_of requests.now) planned.now →
+        IsPlanned (length free.now) before (marked_spec free.now) after (items_of requests.now)
+        planned.now
+        →
         IsAnswer (among before) (marked_spec free.now) after (items_of requests.now) answer) }
 {
     match order_or_cycle(alloc, &planned.before, &planned.marks)? {
@@ -86,8 +89,13 @@ fn plan_without_cycle(
     requires inside { Inside (length before.now) before.now }
     requires post { Inside (length before.now) post.now }
     requires requests { Inside (length before.now) requests.now }
-    requires cycle { cycle (goes before.now) (planned_spec (goes before.now) (marked_spec free.now) (successors post.now) (items_of requests.now)) ≡ [] }
-    ensures { IfOk result (IsPlan (goes before.now) (marked_spec free.now) (successors post.now) (items_of requests.now)) }
+    requires cycle { cycle (goes before.now)
+        (planned_spec (goes before.now) (marked_spec free.now) (successors post.now)
+        (items_of requests.now))
+        ≡ [] }
+    ensures { IfOk result
+        (IsPlan (goes before.now) (marked_spec free.now) (successors post.now)
+        (items_of requests.now)) }
 {
     let mut groups = Groups::new(alloc, before.len())?;
     let ends = groups.add_all(alloc, before, free, requests)?;

@@ -1,5 +1,6 @@
 -- Paths of lines on needs, with one line more.
-use Rattle.std.proofs.Common.{◌≡◌, ℕ, ◌+◌, ◌<◌, Bool, true, false, List, [], ◌∷◌, length, take, get_or, refl, sym, ap, ◌∙◌}
+use Rattle.std.proofs.Common.{◌≡◌, ℕ, ◌+◌, ◌<◌, Bool, true, false, List, [], ◌∷◌, length, take}
+use Rattle.std.proofs.Common.{get_or, refl, sym, ap, ◌∙◌}
 use Rattle.std.specs.Prelude.{◌||◌}
 use Rattle.std.proofs.lemmas.List.{take_more}
 use Rattle.std.proofs.lemmas.List.Folds.{list_any-append}
@@ -11,7 +12,9 @@ pub or-false : (b : Bool) → (b || false) ≡ b
 or-false true = refl
 or-false false = refl
 
-pub troubled-more : (unmet : List Unbound) (i : ℕ) (line : Unbound) (path : List ℕ) → i < length unmet → line ≡ get_or unmet i line → is_troubled (take (i + 1) unmet) path ≡ (is_troubled (take i unmet) path || belongs path line)
+pub troubled-more : (unmet : List Unbound) (i : ℕ) (line : Unbound) (path : List ℕ)
+    → i < length unmet → line ≡ get_or unmet i line
+    → is_troubled (take (i + 1) unmet) path ≡ (is_troubled (take i unmet) path || belongs path line)
 troubled-more unmet i line path l is =
     ap (λ ls. is_troubled ls path) (take_more unmet i line l)
     ∙ list_any-append (belongs path) (take i unmet) (get_or unmet i line ∷ [])

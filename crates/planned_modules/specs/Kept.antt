@@ -14,11 +14,13 @@ use Rattle.planned_modules.specs.Rules.{is_on, shown_rules}
 
 -- The group of each name has the rules on the module of this name, in order.
 abbrev pub IsGrouped : List (List ℕ × List (Bor Rule)) → List Rule → Type 0
-IsGrouped groups rules = (name : List ℕ) → shown_rules (group_of groups name) ≡ filter (is_on name) rules
+IsGrouped groups rules =
+    (name : List ℕ) → shown_rules (group_of groups name) ≡ filter (is_on name) rules
 
 -- The modules are the index's, exactly the paths of lines on needs are kept, and names are looked
 -- up by the rules.
-pub record IsPlanner (own : List KeyValue) (paths : List (List ℕ)) (rules : List Rule) (h : Held) : Type 0 where
+pub record IsPlanner (own : List KeyValue) (paths : List (List ℕ)) (rules : List Rule) (h : Held) :
+    Type 0 where
   pub own_modules : own ≡ modules (sources_of h)
   pub own_rules : rules ≡ h.rules
   pub troubled : (path : List ℕ) → is_among paths path ≡ is_troubled h.unmet path

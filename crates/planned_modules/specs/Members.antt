@@ -1,5 +1,6 @@
 -- What some names are resolved to, and the modules that are planned for them. modprobe(8).
-use Rattle.std.specs.Prelude.{ℕ, ◌==◌, Bool, true, false, List, map, Option, Some, None, if◌then◌else◌}
+use Rattle.std.specs.Prelude.{ℕ, ◌==◌, Bool, true, false, List, map, Option, Some, None}
+use Rattle.std.specs.Prelude.{if◌then◌else◌}
 use Rattle.std.specs.List.{flat_map}
 use Rattle.std.specs.Str.{bytes_eq}
 use Rattle.km_names.specs.First.{first}
@@ -56,7 +57,8 @@ kind_unless None None builtin = if builtin then inside else unknown
 
 abbrev pub kind_of : Sources → Bool → List ℕ → ResolvedKind
 kind_of s ignored name =
-    kind_unless (place_of (modules s) name) (chosen_command s.rules ignored name) (has_value s.maps.builtin name)
+    kind_unless (place_of (modules s) name) (chosen_command s.rules ignored name)
+    (has_value s.maps.builtin name)
 
 -- Whether a kind is the unknown one.
 abbrev pub is_unknown_kind : ResolvedKind → Bool
@@ -77,7 +79,7 @@ is_unfound s name = (found s.rules s.maps s.use_blacklist name).list == 0
 abbrev pub all_names : List Found → List (List ℕ)
 all_names founds = flat_map (λ f. f.names) founds
 
--- The fault of a name that nothing is found for, or that is unknown: it is in its normal form, if it
--- has one.
+-- The fault of a name that nothing is found for, or that is unknown: it is in its normal form, if
+-- it has one.
 abbrev pub unfound : List ℕ → ResolveFault
 unfound name = NotFound (normal_or_itself name)

@@ -1,6 +1,7 @@
 -- What each module needs: the modules of its dependency line, and those that its soft dependencies
 -- name, if they can be loaded. modules.dep(5), modprobe.d(5), "softdep".
-use Rattle.std.specs.Prelude.{ℕ, ◌==◌, ◌&&◌, not, Bool, List, [], ◌++◌, filter, length, if◌then◌else◌}
+use Rattle.std.specs.Prelude.{ℕ, ◌==◌, ◌&&◌, not, Bool, List, [], ◌++◌, filter, length}
+use Rattle.std.specs.Prelude.{if◌then◌else◌}
 use Rattle.std.specs.List.{list_any, flat_map}
 use Rattle.std.specs.Str.{bytes_eq}
 use Rattle.index_format.specs.Listing.{KeyValue}
@@ -38,7 +39,8 @@ is_troubled unmet path = list_any (belongs path) unmet
 -- Whether a module can be loaded: no line is on a need of it or of a module of its dependency line.
 abbrev pub is_available : List KeyValue → List Unbound → ℕ → Bool
 is_available ms unmet x =
-    not (is_troubled unmet (path_at ms x)) && not (list_any (λ y. is_troubled unmet (path_at ms y)) (line_places ms x))
+    not (is_troubled unmet (path_at ms x))
+    && not (list_any (λ y. is_troubled unmet (path_at ms y)) (line_places ms x))
 
 -- The names that a rule has before a module. modprobe.d(5), "softdep".
 abbrev pub names_before : List ℕ → Rule → List (List ℕ)
@@ -58,12 +60,14 @@ found_names s name = (found s.rules s.maps s.use_blacklist name).names
 -- itself.
 abbrev pub soft_places : Sources → ℕ → List (List ℕ) → List ℕ
 soft_places s x names =
-    filter (λ y. not (y == x) && is_available (modules s) s.unmet y) (flat_map (λ name. places_of (modules s) (found_names s name)) names)
+    filter (λ y. not (y == x) && is_available (modules s) s.unmet y)
+    (flat_map (λ name. places_of (modules s) (found_names s name)) names)
 
 -- What comes before a module.
 abbrev pub before : Sources → ℕ → List ℕ
 before s x =
-    line_places (modules s) x ++ soft_places s x (flat_map (names_before (name_at (modules s) x)) s.rules)
+    line_places (modules s) x
+    ++ soft_places s x (flat_map (names_before (name_at (modules s) x)) s.rules)
 
 -- What is asked for after a module.
 abbrev pub after : Sources → ℕ → List ℕ
@@ -71,4 +75,5 @@ after s x = soft_places s x (flat_map (names_after (name_at (modules s) x)) s.ru
 
 -- The modules that aren't loaded.
 abbrev pub unloaded : Sources → List ℕ
-unloaded s = filter (λ x. not (is_among s.loaded (name_at (modules s) x))) (below (length (modules s)))
+unloaded s =
+    filter (λ x. not (is_among s.loaded (name_at (modules s) x))) (below (length (modules s)))

@@ -4,7 +4,8 @@ use Rattle.std.specs.Borrow.{Bor}
 use Rattle.std.specs.Option.{option_map_or}
 use Rattle.std.specs.Str.{bytes_eq}
 use Rattle.modprobe_conf.specs.declared.rule.Rule.{Rule}
-use Rattle.modprobe_conf.specs.declared.rule.Rule.TheVariants.{Alias, Blacklist, Options, Install, Remove, Softdep}
+use Rattle.modprobe_conf.specs.declared.rule.Rule.TheVariants.{Alias, Blacklist, Options, Install}
+use Rattle.modprobe_conf.specs.declared.rule.Rule.TheVariants.{Remove, Softdep}
 
 -- The module that a rule is on, for the rules that plans ask for: parameters, commands for loading,
 -- and soft dependencies.

@@ -1,5 +1,6 @@
 // What names stand for.
-ghost use Rattle.std.specs.Prelude.{◌≡◌, ◌<◌, ◌⊎◌, not, ℕ, List, map, length, All, Some, None, IfOk, IfErr, OnOk, option_map};
+ghost use Rattle.std.specs.Prelude.{◌≡◌, ◌<◌, ◌⊎◌, not, ℕ, List, map, length, All, Some, None};
+ghost use Rattle.std.specs.Prelude.{IfOk, IfErr, OnOk, option_map};
 ghost use Rattle.std.specs.List.{find};
 ghost use Rattle.relation_order.specs.Sets.{below, marked};
 ghost use Rattle.relation_order.specs.Search.{Inside};
@@ -9,7 +10,9 @@ ghost use Rattle.dependency_lines.specs.Modules.{places_of, name_at};
 ghost use Rattle.planned_modules.specs.Needs.{modules as modules_spec, unloaded};
 ghost use Rattle.planned_modules.specs.Planner.{sources_of};
 ghost use Rattle.planned_modules.specs.Kept.{texts};
-ghost use Rattle.planned_modules.specs.Members.{founds_of, chosen_command, install_command, command_of, unfound, is_unfound, is_unknown, all_names};
+ghost use Rattle.planned_modules.specs.Members.{founds_of, chosen_command, install_command};
+ghost use Rattle.planned_modules.specs.Members.{command_of, unfound, is_unfound, is_unknown};
+ghost use Rattle.planned_modules.specs.Members.{all_names};
 
 use crate::fault::ResolveFault;
 use crate::needs::push_all;
@@ -28,9 +31,13 @@ pub fn find_each(
     planner: &Planner<'_>,
     names: &Names,
 ) -> Result<Vec<Found>, ResolveFault>
-    ensures found { IfOk result (λ founds. founds.items ≡ founds_of (sources_of planner.now) names.now) }
+    ensures found { IfOk result
+        (λ founds. founds.items ≡ founds_of (sources_of planner.now) names.now) }
     ensures passed { OnOk result (find (is_unfound (sources_of planner.now)) names.now ≡ None) }
-    ensures err { IfErr result (λ fault. (fault ≡ ResolveFault.Memory) ⊎ (option_map unfound (find (is_unfound (sources_of planner.now)) names.now) ≡ Some fault)) }
+    ensures err { IfErr result
+        (λ fault. (fault ≡ ResolveFault.Memory)
+        ⊎ (option_map unfound (find (is_unfound (sources_of planner.now)) names.now)
+        ≡ Some fault)) }
 {
     let mut founds = Vec::new(alloc);
     for name in names.as_slice() {
@@ -59,8 +66,13 @@ pub fn check_known(
     ignored: bool,
     founds: &[Found],
 ) -> Result<(), ResolveFault>
-    ensures passed { OnOk result (find (is_unknown (sources_of planner.now) ignored) (all_names founds.now) ≡ None) }
-    ensures err { IfErr result (λ fault. (fault ≡ ResolveFault.Memory) ⊎ (option_map unfound (find (is_unknown (sources_of planner.now) ignored) (all_names founds.now)) ≡ Some fault)) }
+    ensures passed { OnOk result
+        (find (is_unknown (sources_of planner.now) ignored) (all_names founds.now) ≡ None) }
+    ensures err { IfErr result
+        (λ fault. (fault ≡ ResolveFault.Memory)
+        ⊎ (option_map unfound
+        (find (is_unknown (sources_of planner.now) ignored) (all_names founds.now))
+        ≡ Some fault)) }
 {
     let names = names_in(alloc, founds)?;
     for name in &names {
@@ -88,8 +100,11 @@ pub(crate) fn requests_of(
     planner: &Planner<'_>,
     founds: &[Found],
 ) -> Result<Vec<Vec<usize>>, AllocError>
-    ensures items { IfOk result (λ requests. items_of requests.items ≡ map (λ f. places_of (modules_spec (sources_of planner.now)) f.names) founds.now) }
-    ensures inside { IfOk result (λ requests. Inside (length (modules_spec (sources_of planner.now))) requests.items) }
+    ensures items { IfOk result
+        (λ requests. items_of requests.items
+        ≡ map (λ f. places_of (modules_spec (sources_of planner.now)) f.names) founds.now) }
+    ensures inside { IfOk result
+        (λ requests. Inside (length (modules_spec (sources_of planner.now))) requests.items) }
 {
     let mut requests = Vec::new(alloc);
     for found in founds {
@@ -100,8 +115,10 @@ pub(crate) fn requests_of(
 
 /// Finds the places of the names that are modules.
 fn request_of(alloc: Global, planner: &Planner<'_>, names: &Names) -> Result<Vec<usize>, AllocError>
-    ensures items { IfOk result (λ places. places.items ≡ places_of (modules_spec (sources_of planner.now)) names.now) }
-    ensures inside { IfOk result (λ places. All (λ y. y < length (modules_spec (sources_of planner.now))) places.items) }
+    ensures items { IfOk result
+        (λ places. places.items ≡ places_of (modules_spec (sources_of planner.now)) names.now) }
+    ensures inside { IfOk result
+        (λ places. All (λ y. y < length (modules_spec (sources_of planner.now))) places.items) }
 {
     let places = planner.modules().places_of(alloc, names.as_slice())?;
     Ok(places)
@@ -109,7 +126,8 @@ fn request_of(alloc: Global, planner: &Planner<'_>, names: &Names) -> Result<Vec
 
 /// Makes a mark for each module that isn't loaded.
 pub(crate) fn free_marks(alloc: Global, planner: &Planner<'_>) -> Result<Vec<bool>, AllocError>
-    ensures long { IfOk result (λ free. length free.items ≡ length (modules_spec (sources_of planner.now))) }
+    ensures long { IfOk result
+        (λ free. length free.items ≡ length (modules_spec (sources_of planner.now))) }
     ensures marks { IfOk result (λ free. marked free.items ≡ unloaded (sources_of planner.now)) }
 {
     let loaded = name_set(alloc, planner.loaded())?;
@@ -122,7 +140,10 @@ fn marks_but(
     modules: &Modules<'_>,
     names: &NameSet<'_>,
 ) -> Result<Vec<bool>, AllocError>
-    ensures { IfOk result (λ marks. marks.items ≡ map (λ x. not (is_among names.now (name_at modules.now x))) (below (length modules.now))) }
+    ensures { IfOk result
+        (λ marks. marks.items
+        ≡ map (λ x. not (is_among names.now (name_at modules.now x)))
+        (below (length modules.now))) }
 {
     let mut marks = Vec::new(alloc);
     for place in 0..modules.len() {
@@ -172,7 +193,8 @@ fn command_in<'a>(rule: &'a Rule, wanted: &[u8]) -> Option<&'a [u8]>
 /// Returns the command that is run in place of loading the module of this name, unless commands are
 /// ignored.
 pub fn chosen_command<'a>(rules: &'a RuleTable<'_>, ignored: bool, name: &[u8]) -> Option<&'a [u8]>
-    ensures { option_map (λ command. command.now) result ≡ chosen_command rules.now ignored name.now }
+    ensures { option_map (λ command. command.now) result
+        ≡ chosen_command rules.now ignored name.now }
 {
     if ignored {
         None

@@ -30,7 +30,8 @@ fn soft_names<'a>(
     name: &[u8],
     side: Side,
 ) -> Result<Vec<&'a Name>, AllocError>
-    ensures { IfOk result (λ names. texts names.items ≡ flat_map (names_on side name.now) rules.now) }
+    ensures { IfOk result
+        (λ names. texts names.items ≡ flat_map (names_on side name.now) rules.now) }
 {
     let mut names = Vec::new(alloc);
     let own = rules.on(name);
@@ -46,7 +47,8 @@ fn push_soft_names<'a>(
     wanted: &[u8],
     side: Side,
 ) -> Result<(), AllocError>
-    ensures { OnOk result (texts names.new.items ≡ texts names.old.items ++ names_on side wanted.now rule.now) }
+    ensures { OnOk result
+        (texts names.new.items ≡ texts names.old.items ++ names_on side wanted.now rule.now) }
 {
     match rule {
         Rule::Softdep { name, pre, post } if name.as_bytes() == wanted => {
@@ -96,7 +98,8 @@ impl<'p, 'a> Model for ModuleNeeds<'p, 'a> {
 
     ghost view = { λ n. n.planner.now };
 
-    ghost invariant = { λ n. IsSoftTable (sources_of n.planner.now) (all_soft_names n.planner.now.rules) n.soft.entries };
+    ghost invariant = { λ n. IsSoftTable (sources_of n.planner.now)
+        (all_soft_names n.planner.now.rules) n.soft.entries };
 }
 
 impl<'p, 'a> ModuleNeeds<'p, 'a> {
@@ -114,7 +117,11 @@ impl<'p, 'a> ModuleNeeds<'p, 'a> {
     /// Returns the modules that soft dependencies name on one side of a module, each once.
     fn soft_places(&self, alloc: Global, place: usize, side: Side) -> Result<Vec<usize>, AllocError>
         requires { place < length (modules_spec (sources_of self.now)) }
-        ensures { IfOk result (λ places. places.items ≡ once (soft_places (sources_of self.now) place (flat_map (names_on side (name_at (modules_spec (sources_of self.now)) place)) (sources_of self.now).rules))) }
+        ensures { IfOk result
+            (λ places. places.items
+            ≡ once (soft_places (sources_of self.now) place
+            (flat_map (names_on side (name_at (modules_spec (sources_of self.now)) place))
+            (sources_of self.now).rules))) }
     {
         let modules = self.planner.modules();
         let names = soft_names(alloc, self.planner.rules(), modules.name(place), side)?;

@@ -31,9 +31,13 @@ pub fn planned_answer(
     planner: &Planner<'_>,
     founds: &[Found],
 ) -> Result<Planning, AllocError>
-    ensures marks { IfOk result (λ p. marked p.marks.items ≡ planned_spec (sources_of planner.now) founds.now) }
-    ensures long { IfOk result (λ p. length p.marks.items ≡ length (modules_spec (sources_of planner.now))) }
-    ensures answer { IfOk result (λ p. IsAnswer (among (before (sources_of planner.now))) (unloaded (sources_of planner.now)) (after (sources_of planner.now)) (asked (sources_of planner.now) founds.now) p.answer) }
+    ensures marks { IfOk result
+        (λ p. marked p.marks.items ≡ planned_spec (sources_of planner.now) founds.now) }
+    ensures long { IfOk result
+        (λ p. length p.marks.items ≡ length (modules_spec (sources_of planner.now))) }
+    ensures answer { IfOk result
+        (λ p. IsAnswer (among (before (sources_of planner.now))) (unloaded (sources_of planner.now))
+        (after (sources_of planner.now)) (asked (sources_of planner.now) founds.now) p.answer) }
 {
     let requests = requests_of(alloc, planner, founds)?;
     let free = free_marks(alloc, planner)?;
@@ -49,9 +53,15 @@ fn planned_among(
 ) -> Result<Planning, AllocError>
     requires free { length free.now ≡ length (modules_spec (sources_of planner.now)) }
     requires requests { Inside (length (modules_spec (sources_of planner.now))) requests.now }
-    ensures marks { IfOk result (λ p. marked p.marks.items ≡ planned_for (among (before (sources_of planner.now))) (marked free.now) (after (sources_of planner.now)) (items_of requests.now)) }
-    ensures long { IfOk result (λ p. length p.marks.items ≡ length (modules_spec (sources_of planner.now))) }
-    ensures answer { IfOk result (λ p. IsAnswer (among (before (sources_of planner.now))) (marked free.now) (after (sources_of planner.now)) (items_of requests.now) p.answer) }
+    ensures marks { IfOk result
+        (λ p. marked p.marks.items
+        ≡ planned_for (among (before (sources_of planner.now))) (marked free.now)
+        (after (sources_of planner.now)) (items_of requests.now)) }
+    ensures long { IfOk result
+        (λ p. length p.marks.items ≡ length (modules_spec (sources_of planner.now))) }
+    ensures answer { IfOk result
+        (λ p. IsAnswer (among (before (sources_of planner.now))) (marked free.now)
+        (after (sources_of planner.now)) (items_of requests.now) p.answer) }
 {
     let needs = ModuleNeeds::new(alloc, planner)?;
     let planned = find_planned(alloc, &needs, free, requests)?;

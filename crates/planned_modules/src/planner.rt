@@ -40,14 +40,28 @@ impl<'a> Model for Planner<'a> {
 
     ghost Value = { Held };
 
-    ghost view = { λ p. record { rules = p.rules; indexes = p.lookup.indexes; unmet = p.unmet.now; loaded = p.loaded.now; use_blacklist = p.use_blacklist } };
+    ghost view = { λ p. record {
+      rules = p.rules;
+      indexes = p.lookup.indexes;
+      unmet = p.unmet.now;
+      loaded = p.loaded.now;
+      use_blacklist = p.use_blacklist;
+    } };
 
-    ghost invariant = { λ p. IsPlanner p.modules.now p.troubled p.lookup.rules (record { rules = p.rules; indexes = p.lookup.indexes; unmet = p.unmet.now; loaded = p.loaded.now; use_blacklist = p.use_blacklist }) };
+    ghost invariant = { λ p. IsPlanner p.modules.now p.troubled p.lookup.rules
+        (record {
+          rules = p.rules;
+          indexes = p.lookup.indexes;
+          unmet = p.unmet.now;
+          loaded = p.loaded.now;
+          use_blacklist = p.use_blacklist;
+        }) };
 }
 
 /// Lists the paths of modules with a line on a need.
 fn troubled_paths(alloc: Global, unmet: &[Unbound]) -> Result<NameSet<'_>, AllocError>
-    ensures { IfOk result (λ paths. (path : List ℕ) → is_among paths path ≡ is_troubled unmet.now path) }
+    ensures { IfOk result
+        (λ paths. (path : List ℕ) → is_among paths path ≡ is_troubled unmet.now path) }
 {
     let mut paths = NameSet::new(alloc);
     for line in unmet {
@@ -60,7 +74,8 @@ fn troubled_paths(alloc: Global, unmet: &[Unbound]) -> Result<NameSet<'_>, Alloc
 
 /// Returns the path of the module that a line is on, if the line is on a need.
 fn path_of(line: &Unbound) -> Option<&[u8]>
-    ensures { (path : List ℕ) → belongs path line.now ≡ option_map_or (λ own. bytes_eq own.now path) result false }
+    ensures { (path : List ℕ)
+        → belongs path line.now ≡ option_map_or (λ own. bytes_eq own.now path) result false }
 {
     match line {
         Unbound::Missing { path, .. }
@@ -83,7 +98,15 @@ impl<'a> Planner<'a> {
         modules: &'a Modules<'a>,
     ) -> Result<Planner<'a>, AllocError>
         requires { modules.now ≡ modules_of (maps_of indexes.now).dep }
-        ensures { IfOk result (λ planner. planner ≡ record { rules = rules.now; indexes = indexes.now; unmet = unmet.now; loaded = loaded.now; use_blacklist = use_blacklist }) }
+        ensures { IfOk result
+            (λ planner. planner
+            ≡ record {
+              rules = rules.now;
+              indexes = indexes.now;
+              unmet = unmet.now;
+              loaded = loaded.now;
+              use_blacklist = use_blacklist;
+            }) }
     {
         let troubled = troubled_paths(alloc, unmet)?;
         let table = RuleTable::new(alloc, rules)?;
@@ -136,7 +159,10 @@ impl<'a> Planner<'a> {
 
     /// Finds what a name stands for.
     pub(crate) fn found(&self, alloc: Global, name: &Name) -> Result<Found, AllocError>
-        ensures { IfOk result (λ f. f ≡ found (sources_of self.now).rules (sources_of self.now).maps (sources_of self.now).use_blacklist name.now) }
+        ensures { IfOk result
+            (λ f. f
+            ≡ found (sources_of self.now).rules (sources_of self.now).maps
+            (sources_of self.now).use_blacklist name.now) }
     {
         self.lookup.find(alloc, name, self.use_blacklist)
     }
@@ -144,7 +170,8 @@ impl<'a> Planner<'a> {
     /// Finds the places of the modules that the dependency line of a module names.
     pub(crate) fn line_places(&self, alloc: Global, place: usize) -> Result<Vec<usize>, AllocError>
         requires { place < length (modules_spec (sources_of self.now)) }
-        ensures { IfOk result (λ places. places.items ≡ line_places (modules_spec (sources_of self.now)) place) }
+        ensures { IfOk result
+            (λ places. places.items ≡ line_places (modules_spec (sources_of self.now)) place) }
     {
         self.modules.line_places(alloc, place)
     }
@@ -152,7 +179,9 @@ impl<'a> Planner<'a> {
     /// Returns whether a line is on a need of a module.
     fn is_troubled(&self, place: usize) -> bool
         requires { place < length (modules_spec (sources_of self.now)) }
-        ensures { result ≡ is_troubled (sources_of self.now).unmet (path_at (modules_spec (sources_of self.now)) place) }
+        ensures { result
+            ≡ is_troubled (sources_of self.now).unmet
+            (path_at (modules_spec (sources_of self.now)) place) }
     {
         self.troubled.contains(self.modules.path(place))
     }
@@ -160,7 +189,9 @@ impl<'a> Planner<'a> {
     /// Returns whether a line is on a need of one of some modules.
     fn any_troubled(&self, places: &[usize]) -> bool
         requires { All (λ y. y < length (modules_spec (sources_of self.now))) places.now }
-        ensures { result ≡ list_any (λ y. is_troubled (sources_of self.now).unmet (path_at (modules_spec (sources_of self.now)) y)) places.now }
+        ensures { result
+            ≡ list_any (λ y. is_troubled (sources_of self.now).unmet
+            (path_at (modules_spec (sources_of self.now)) y)) places.now }
     {
         places.iter().any(|y| self.is_troubled(*y))
     }
@@ -169,7 +200,10 @@ impl<'a> Planner<'a> {
     /// dependency line.
     pub(crate) fn is_available(&self, alloc: Global, place: usize) -> Result<bool, AllocError>
         requires { place < length (modules_spec (sources_of self.now)) }
-        ensures { IfOk result (λ available. available ≡ is_available (modules_spec (sources_of self.now)) (sources_of self.now).unmet place) }
+        ensures { IfOk result
+            (λ available. available
+            ≡ is_available (modules_spec (sources_of self.now)) (sources_of self.now).unmet
+            place) }
     {
         if self.is_troubled(place) {
             return Ok(false);

@@ -1,11 +1,13 @@
 // What the names of soft dependencies stand for.
-ghost use Rattle.std.specs.Prelude.{◌≡◌, ◌<◌, ◌++◌, ◌∷◌, ◌==◌, [], not, ℕ, List, length, filter, replicate, Some, None, All, IfOk, IfSome, OnOk, unwrap_or};
+ghost use Rattle.std.specs.Prelude.{◌≡◌, ◌<◌, ◌++◌, ◌∷◌, ◌==◌, [], not, ℕ, List, length, filter};
+ghost use Rattle.std.specs.Prelude.{replicate, Some, None, All, IfOk, IfSome, OnOk, unwrap_or};
 ghost use Rattle.std.specs.List.{flat_map};
 ghost use Rattle.relation_order.specs.Search.{with_items};
 ghost use Rattle.planned_modules.specs.Needs.{modules, is_available};
 ghost use Rattle.planned_modules.specs.Planner.{sources_of};
 ghost use Rattle.planned_modules.specs.Kept.{texts};
-ghost use Rattle.planned_modules.specs.Softdeps.{IsSoftTable, KnowsAvailable, all_soft_names, soft_names_in, kept_places, loadable_places, once};
+ghost use Rattle.planned_modules.specs.Softdeps.{IsSoftTable, KnowsAvailable, all_soft_names};
+ghost use Rattle.planned_modules.specs.Softdeps.{soft_names_in, kept_places, loadable_places, once};
 
 use crate::planner::Planner;
 use indexmap::{IndexMap, IndexSet};
@@ -28,7 +30,9 @@ pub(crate) fn soft_table<'a>(
     alloc: Global,
     planner: &Planner<'a>,
 ) -> Result<SoftTable<'a>, AllocError>
-    ensures { IfOk result (λ table. IsSoftTable (sources_of planner.now) (all_soft_names planner.now.rules) table.entries) }
+    ensures { IfOk result
+        (λ table. IsSoftTable (sources_of planner.now) (all_soft_names planner.now.rules)
+        table.entries) }
 {
     let mut known = nothing_known(alloc, planner.modules().len())?;
     let mut table = SoftTable::with_hasher(alloc, BuildHasherDefault::new());
@@ -60,7 +64,8 @@ fn add_rule<'a>(
 ) -> Result<(), AllocError>
     requires { KnowsAvailable (sources_of planner.now) known.old.items }
     ensures known { OnOk result (KnowsAvailable (sources_of planner.now) known.new.items) }
-    ensures table { OnOk result ((names : List (List ℕ)) → IsSoftTable (sources_of planner.now) names table.old.entries
+    ensures table { OnOk result ((names : List (List ℕ))
+        → IsSoftTable (sources_of planner.now) names table.old.entries
         → IsSoftTable (sources_of planner.now) (names ++ soft_names_in rule.now) table.new.entries) }
 {
     match rule {
@@ -86,7 +91,8 @@ fn add_names<'a>(
 ) -> Result<(), AllocError>
     requires { KnowsAvailable (sources_of planner.now) known.old.items }
     ensures known { OnOk result (KnowsAvailable (sources_of planner.now) known.new.items) }
-    ensures table { OnOk result ((names : List (List ℕ)) → IsSoftTable (sources_of planner.now) names table.old.entries
+    ensures table { OnOk result ((names : List (List ℕ))
+        → IsSoftTable (sources_of planner.now) names table.old.entries
         → IsSoftTable (sources_of planner.now) (names ++ more.now) table.new.entries) }
 {
     table.reserve(more.len())?;
@@ -106,7 +112,8 @@ fn add_name<'a>(
 ) -> Result<(), AllocError>
     requires { KnowsAvailable (sources_of planner.now) known.old.items }
     ensures known { OnOk result (KnowsAvailable (sources_of planner.now) known.new.items) }
-    ensures table { OnOk result ((names : List (List ℕ)) → IsSoftTable (sources_of planner.now) names table.old.entries
+    ensures table { OnOk result ((names : List (List ℕ))
+        → IsSoftTable (sources_of planner.now) names table.old.entries
         → IsSoftTable (sources_of planner.now) (names ++ name.now ∷ []) table.new.entries) }
 {
     match table.get(name.as_bytes()) {
@@ -129,7 +136,8 @@ fn loadable_places(
 ) -> Result<Vec<usize>, AllocError>
     requires { KnowsAvailable (sources_of planner.now) known.old.items }
     ensures known { OnOk result (KnowsAvailable (sources_of planner.now) known.new.items) }
-    ensures places { IfOk result (λ places. places.items ≡ loadable_places (sources_of planner.now) name.now) }
+    ensures places { IfOk result
+        (λ places. places.items ≡ loadable_places (sources_of planner.now) name.now) }
 {
     let found = planner.found(alloc, name)?;
     let places = planner.modules().places_of(alloc, found.names.as_slice())?;
@@ -149,7 +157,11 @@ fn only_loadable(
     requires known { KnowsAvailable (sources_of planner.now) known.old.items }
     requires places { All (λ y. y < length (modules (sources_of planner.now))) places.now }
     ensures known { OnOk result (KnowsAvailable (sources_of planner.now) known.new.items) }
-    ensures places { IfOk result (λ kept. kept.items ≡ filter (is_available (modules (sources_of planner.now)) (sources_of planner.now).unmet) places.now) }
+    ensures places { IfOk result
+        (λ kept. kept.items
+        ≡ filter
+        (is_available (modules (sources_of planner.now)) (sources_of planner.now).unmet)
+        places.now) }
 {
     let mut kept = Vec::new(alloc);
     for y in places {
@@ -170,7 +182,10 @@ fn is_loadable(
     requires known { KnowsAvailable (sources_of planner.now) known.old.items }
     requires place { place < length (modules (sources_of planner.now)) }
     ensures known { OnOk result (KnowsAvailable (sources_of planner.now) known.new.items) }
-    ensures answer { IfOk result (λ loadable. loadable ≡ is_available (modules (sources_of planner.now)) (sources_of planner.now).unmet place) }
+    ensures answer { IfOk result
+        (λ loadable. loadable
+        ≡ is_available (modules (sources_of planner.now)) (sources_of planner.now).unmet
+        place) }
 {
     match known[place] {
         Some(loadable) => Ok(loadable),
@@ -189,7 +204,11 @@ pub(crate) fn find_named(
     place: usize,
     names: &[&Name],
 ) -> Result<Vec<usize>, AllocError>
-    ensures { IfOk result (λ found. found.items ≡ once (filter (λ y. not (y == place)) (flat_map (λ name. unwrap_or (kept_places table.now.entries name) []) (texts names.now)))) }
+    ensures { IfOk result
+        (λ found. found.items
+        ≡ once (filter (λ y. not (y == place))
+        (flat_map (λ name. unwrap_or (kept_places table.now.entries name) [])
+        (texts names.now)))) }
 {
     let mut found = PlaceSet::with_hasher(alloc, BuildHasherDefault::new());
     let mut looked_up = NameSet::new(alloc);
@@ -208,7 +227,11 @@ fn find_all<'n>(
 ) -> Result<Vec<usize>, AllocError>
     requires found { found.old.keys ≡ [] }
     requires looked_up { looked_up.old ≡ [] }
-    ensures { IfOk result (λ places. places.items ≡ once (filter (λ y. not (y == place)) (flat_map (λ name. unwrap_or (kept_places table.now.entries name) []) (texts names.now)))) }
+    ensures { IfOk result
+        (λ places. places.items
+        ≡ once (filter (λ y. not (y == place))
+        (flat_map (λ name. unwrap_or (kept_places table.now.entries name) [])
+        (texts names.now)))) }
 {
     let mut next = 0;
     for name in names {
@@ -253,7 +276,8 @@ fn places_at<'t>(table: &'t SoftTable<'_>, at: usize, name: &[u8]) -> Option<&'t
 
 /// Finds the modules among some that aren't this one, unless they were found before.
 fn find_others(found: &mut PlaceSet, place: usize, places: &[usize]) -> Result<(), AllocError>
-    ensures { OnOk result (found.new.keys ≡ with_items found.old.keys (filter (λ y. not (y == place)) places.now)) }
+    ensures { OnOk result
+        (found.new.keys ≡ with_items found.old.keys (filter (λ y. not (y == place)) places.now)) }
 {
     for y in places {
         if *y != place {

@@ -15,6 +15,7 @@ use Rattle.provider_rel.specs.Items.{items, item_name, bound_of}
 pub record AreBindings (tree : List Facts) (kernel : Kernel) (b : Bindings) : Type 0 where
   pub items_are : b.items.items ≡ items (modules_of tree) (kernel_of kernel)
   pub names_are : IsTableOf b.names (map item_name b.items.items)
-  pub bound_are : map (λ (v : Vec (Option ℕ)). v.items) b.bound.items ≡ map (λ (f : Facts). bound_of b.names f.needs) tree
+  pub bound_are : map (λ (v : Vec (Option ℕ)). v.items) b.bound.items
+      ≡ map (λ (f : Facts). bound_of b.names f.needs) tree
   pub known_is : b.known ≡ kernel.known
   pub few : length b.items.items < 2 ^ 32

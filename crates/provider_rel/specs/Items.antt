@@ -1,6 +1,8 @@
 -- All exports, as the code lists them: the kernel's, and then each module's in the order of the
 -- tree.
-use Rattle.std.specs.Prelude.{ℕ, Bool, false, List, [], ◌∷◌, ◌++◌, map, filter, slice_get, Option, Some, None, unwrap_or, option_map, option_and_then, codes, if◌then◌else◌}
+use Rattle.std.specs.Prelude.{ℕ, Bool, false, List, [], ◌∷◌, ◌++◌, map, filter, slice_get, Option}
+use Rattle.std.specs.Prelude.{Some, None, unwrap_or, option_map, option_and_then, codes}
+use Rattle.std.specs.Prelude.{if◌then◌else◌}
 use Rattle.std.specs.List.{filter_map, flat_map}
 use Rattle.std.specs.Option.{option_or, option_map_or}
 use Rattle.std.specs.Str.{bytes_eq}
@@ -14,7 +16,8 @@ use Rattle.module_facts.specs.declared.facts.Export.{Export as StatedExport}
 use Rattle.module_facts.specs.declared.facts.Need.{Need as StatedNeed}
 use Rattle.kernel_exports.specs.declared.kernel.KernelExport.{KernelExport}
 use Rattle.provider_rel.specs.declared.provider.Provider.{Provider}
-use Rattle.provider_rel.specs.declared.provider.Provider.TheVariants.{Nobody, Kernel as TheKernel, Module as TheModule}
+use Rattle.provider_rel.specs.declared.provider.Provider.TheVariants.{Nobody, Kernel as TheKernel}
+use Rattle.provider_rel.specs.declared.provider.Provider.TheVariants.{Module as TheModule}
 use Rattle.provider_rel.specs.Faces.{export_of_facts, seen_export}
 use Rattle.provider_rel.specs.Relation.{place}
 
@@ -39,7 +42,8 @@ place_of_owner tree ByKernel = None
 place_of_owner tree (ByModule m) = Some (place tree m)
 
 abbrev pub item_of : List Module → Provided Module → Item
-item_of tree p = record { place = place_of_owner tree p.owner; path = owner_path p.owner; export = p.export }
+item_of tree p =
+    record { place = place_of_owner tree p.owner; path = owner_path p.owner; export = p.export }
 
 -- The items of a tree over a kernel.
 unfoldable pub items : List Module → Kernel → List Item
@@ -57,7 +61,8 @@ item_name i = Some i.export.name
 -- name.
 abbrev pub seen_under : Bool → List ℕ → Option Item → Option Export
 seen_under known x found =
-    option_or (option_map (λ i. i.export) found) (if known then None else Some (record { name = x; crc = None; gpl = false; space = [] }))
+    option_or (option_map (λ i. i.export) found)
+    (if known then None else Some (record { name = x; crc = None; gpl = false; space = [] }))
 
 -- The path of the provider.
 abbrev pub path_under : Bool → Option Item → List ℕ
@@ -65,7 +70,8 @@ path_under known found = option_map_or (λ i. i.path) found (if known then [] el
 
 -- The double lines of items: of each item with the earlier ones that have its name.
 abbrev pub doubles_with : List Item → Item → List Unbound
-doubles_with before i = map (λ b. Double i.export.name b.path i.path) (filter (is_named i.export.name) before)
+doubles_with before i =
+    map (λ b. Double i.export.name b.path i.path) (filter (is_named i.export.name) before)
 
 abbrev pub item_doubles : List Item → List Item → List Unbound
 item_doubles before [] = []
@@ -96,7 +102,8 @@ used_places is bound = filter_map (owner_under is) bound
 
 -- The answer at a place of the owners of all items.
 abbrev pub answer_at : Bool → List Provider → Option ℕ → Provider
-answer_at known owners at = unwrap_or (option_and_then (slice_get owners) at) (if known then Nobody else TheKernel)
+answer_at known owners at =
+    unwrap_or (option_and_then (slice_get owners) at) (if known then Nobody else TheKernel)
 
 -- An item's owner as an answer.
 abbrev pub item_answer : Item → Provider

@@ -7,9 +7,13 @@ use Rattle.module_facts.specs.declared.facts.Need.{Need as StatedNeed}
 use Rattle.name_table.specs.NameTable.{Table, place_of}
 use Rattle.symbol_binding.specs.Needs.{NeedTest, is_missing, is_hidden, is_other_version, is_barred}
 use Rattle.symbol_binding.specs.declared.unbound.Unbound.{Unbound}
-use Rattle.symbol_binding.specs.declared.unbound.Unbound.TheVariants.{Missing as MissingLine, Gpl as GplLine, Version as VersionLine, Namespace as NamespaceLine}
+use Rattle.symbol_binding.specs.declared.unbound.Unbound.TheVariants.{Missing as MissingLine}
+use Rattle.symbol_binding.specs.declared.unbound.Unbound.TheVariants.{Gpl as GplLine}
+use Rattle.symbol_binding.specs.declared.unbound.Unbound.TheVariants.{Version as VersionLine}
+use Rattle.symbol_binding.specs.declared.unbound.Unbound.TheVariants.{Namespace as NamespaceLine}
 use Rattle.provider_rel.specs.declared.unmet.UnmetKind.{UnmetKind}
-use Rattle.provider_rel.specs.declared.unmet.UnmetKind.TheVariants.{Missing, Gpl, Version, Namespace}
+use Rattle.provider_rel.specs.declared.unmet.UnmetKind.TheVariants.{Missing, Gpl, Version}
+use Rattle.provider_rel.specs.declared.unmet.UnmetKind.TheVariants.{Namespace}
 use Rattle.provider_rel.specs.Faces.{face_of, need_of_facts}
 use Rattle.provider_rel.specs.Items.{Item, item_under, seen_under, path_under}
 
@@ -36,4 +40,6 @@ line_if kind known f n found =
 
 -- The lines of a kind of all needs of a module, by the table of names.
 abbrev pub lines_by : UnmetKind → Bool → List Item → Table → Facts → List Unbound
-lines_by kind known is names f = flat_map (λ (n : StatedNeed). line_if kind known f n (item_under is (place_of names n.name))) f.needs
+lines_by kind known is names f =
+    flat_map (λ (n : StatedNeed). line_if kind known f n (item_under is (place_of names n.name)))
+    f.needs

@@ -1,6 +1,7 @@
 -- The relation of a tree over a kernel: who provides a name, what a module depends on, and why a
 -- tree may have no relation. modules.dep(5), depmod(8).
-use Rattle.std.specs.Prelude.{ℕ, false, nat_lt, List, [], ◌∷◌, length, map, min, slice_get, Option, Some, None, if◌then◌else◌}
+use Rattle.std.specs.Prelude.{ℕ, false, nat_lt, List, [], ◌∷◌, length, map, min, slice_get, Option}
+use Rattle.std.specs.Prelude.{Some, None, if◌then◌else◌}
 use Rattle.std.specs.List.{position_or_len, sum_by}
 use Rattle.std.specs.Option.{option_map_or}
 use Rattle.std.specs.Str.{bytes_eq}
@@ -12,9 +13,11 @@ use Rattle.relation_order.specs.Sets.{Relation as Goes, has, below}
 use Rattle.relation_order.specs.Cycle.{cycle}
 use Rattle.relation_order.specs.Closures.{closures}
 use Rattle.provider_rel.specs.declared.provider.Provider.{Provider}
-use Rattle.provider_rel.specs.declared.provider.Provider.TheVariants.{Nobody, Kernel as TheKernel, Module as TheModule}
+use Rattle.provider_rel.specs.declared.provider.Provider.TheVariants.{Nobody, Kernel as TheKernel}
+use Rattle.provider_rel.specs.declared.provider.Provider.TheVariants.{Module as TheModule}
 use Rattle.provider_rel.specs.declared.fault.RelationFault.{RelationFault}
-use Rattle.provider_rel.specs.declared.fault.RelationFault.TheVariants.{Cycle, TooManyDeps, TooManyDoubles}
+use Rattle.provider_rel.specs.declared.fault.RelationFault.TheVariants.{Cycle, TooManyDeps}
+use Rattle.provider_rel.specs.declared.fault.RelationFault.TheVariants.{TooManyDoubles}
 
 -- The place of a module in a tree: the place of the first module of its name.
 abbrev pub place : List Module → Module → ℕ
@@ -36,7 +39,8 @@ provider_of tree kernel x = answer tree (provider tree kernel x)
 -- Whether the module at a place uses the one at another: the second provides a need of the first,
 -- weak or strong.
 abbrev pub uses_at : List Module → Kernel → Goes
-uses_at tree kernel i j = option_map_or (λ m. has (map (place tree) (uses tree kernel m)) j) (slice_get tree i) false
+uses_at tree kernel i j =
+    option_map_or (λ m. has (map (place tree) (uses tree kernel m)) j) (slice_get tree i) false
 
 -- The name of the module at a place.
 abbrev pub name_at : List Module → ℕ → List ℕ
@@ -57,7 +61,8 @@ deps_fault count = if nat_lt 2000000 count then Some (TooManyDeps count) else No
 
 -- The fault of more than 100,000 double lines. A count past 64 bits is given as the greatest of 64.
 abbrev pub doubles_fault : ℕ → Option RelationFault
-doubles_fault count = if nat_lt 100000 count then Some (TooManyDoubles (min count 18446744073709551615)) else None
+doubles_fault count =
+    if nat_lt 100000 count then Some (TooManyDoubles (min count 18446744073709551615)) else None
 
 -- Why a tree has no relation: its named cycle, too many dependencies, or too many double lines; the
 -- first that holds.

@@ -1,6 +1,7 @@
 -- The places of exports that share a name, as the code counts and links them.
 -- It belongs to the code: no public meaning rests on it.
-use Rattle.std.specs.Prelude.{ℕ, ◌<◌, ◌≤◌, ◌==◌, ◌≡◌, Bool, false, List, [], ◌∷◌, length, filter, slice_get, slice_index, All}
+use Rattle.std.specs.Prelude.{ℕ, ◌<◌, ◌≤◌, ◌==◌, ◌≡◌, Bool, false, List, [], ◌∷◌, length, filter}
+use Rattle.std.specs.Prelude.{slice_get, slice_index, All}
 use Rattle.std.specs.Option.{option_map_or}
 use Rattle.name_table.specs.NameTable.{Table, place_of}
 use Rattle.relation_order.specs.Sets.{below}

@@ -77,7 +77,9 @@ pub(crate) fn all_used(
     items: &[ExportItem],
     bound: &[Vec<Option<u32>>],
 ) -> Result<Vec<Vec<usize>>, AllocError>
-    ensures { IfOk result (λ used. map (λ u. u.items) used.items ≡ map (λ b. used_places items.now b.items) bound.now) }
+    ensures { IfOk result
+        (λ used. map (λ u. u.items) used.items
+        ≡ map (λ b. used_places items.now b.items) bound.now) }
 {
     let mut all = Vec::new(alloc);
     for needs in bound {

@@ -1,5 +1,6 @@
 // The lines of modules.unmet on names that have more than one export.
-ghost use Rattle.std.specs.Prelude.{◌≡◌, ◌<◌, ◌^◌, ◌+◌, ◌++◌, ◌∷◌, [], ℕ, List, length, map, take, All, Some, OnOk, IfOk, slice_index_or};
+ghost use Rattle.std.specs.Prelude.{◌≡◌, ◌<◌, ◌^◌, ◌+◌, ◌++◌, ◌∷◌, [], ℕ, List, length, map, take};
+ghost use Rattle.std.specs.Prelude.{All, Some, OnOk, IfOk, slice_index_or};
 ghost use Rattle.std.proofs.Common.{replicate};
 ghost use Rattle.name_table.specs.NameTable.{IsTableOf, place_of};
 ghost use Rattle.symbol_binding.specs.declared.unbound.Unbound.{Unbound};
@@ -56,7 +57,8 @@ pub(crate) fn count_doubles(
 
 /// Makes the double line of an export and one before it.
 fn double(alloc: Global, before: &ExportItem, item: &ExportItem) -> Result<Unbound, AllocError>
-    ensures { IfOk result (λ line. line ≡ Double item.now.export.name before.now.path item.now.path) }
+    ensures { IfOk result
+        (λ line. line ≡ Double item.now.export.name before.now.path item.now.path) }
 {
     Ok(Unbound::Double {
         symbol: Name::from_slice(alloc, item.name())?,
@@ -79,9 +81,12 @@ fn push_chain(
     requires inside { All (λ j. j < length items.now) next.now }
     requires from { from < length items.now }
     ensures within { IfOk result (λ last. last < length items.now) }
-    ensures last { IfOk result (λ last. (js : List ℕ) → IsChain next.now from js → last ≡ last_of from js) }
+    ensures last { IfOk result
+        (λ last. (js : List ℕ) → IsChain next.now from js → last ≡ last_of from js) }
     ensures lines { OnOk result ((js : List ℕ) → IsChain next.now from js → lines.new
-        ≡ lines.old ++ map (λ j. Double item.now.export.name (slice_index_or items.now j item.now).path item.now.path) (from ∷ js)) }
+        ≡ lines.old
+        ++ map (λ j. Double item.now.export.name (slice_index_or items.now j item.now).path
+        item.now.path) (from ∷ js)) }
 {
     let mut at = from;
     'chain: loop {
@@ -108,7 +113,8 @@ fn push_item(
     requires place { k < length items.now }
     requires linked { AreLinked items.now names.now k next.old.items }
     ensures linked { OnOk result (AreLinked items.now names.now (k + 1) next.new.items) }
-    ensures lines { OnOk result ((before : List Unbound) → lines.old ≡ before ++ item_doubles [] (take k items.now)
+    ensures lines { OnOk result ((before : List Unbound)
+        → lines.old ≡ before ++ item_doubles [] (take k items.now)
         → lines.new ≡ before ++ item_doubles [] (take (k + 1) items.now)) }
 {
     let item = &items[k];

@@ -1,9 +1,11 @@
 // Everything that is exported, in order, and what needs it.
-ghost use Rattle.std.specs.Prelude.{◌≡◌, ◌+◌, ◌<◌, ◌^◌, ◌++◌, length, map, option_copied, option_and_then, slice_get, OnOk, IfOk, IfErr};
+ghost use Rattle.std.specs.Prelude.{◌≡◌, ◌+◌, ◌<◌, ◌^◌, ◌++◌, length, map, option_copied};
+ghost use Rattle.std.specs.Prelude.{option_and_then, slice_get, OnOk, IfOk, IfErr};
 ghost use Rattle.name_table.specs.NameTable.{IsTableOf};
 ghost use Rattle.provider_rel.specs.Faces.{modules_of, kernel_of};
 ghost use Rattle.provider_rel.specs.Tree.{IsTree};
-ghost use Rattle.provider_rel.specs.Items.{kernel_item, module_item, items as items_spec, item_name, bound_of};
+ghost use Rattle.provider_rel.specs.Items.{kernel_item, module_item, items as items_spec};
+ghost use Rattle.provider_rel.specs.Items.{item_name, bound_of};
 
 use crate::{RelationFault, TreeFacts};
 use kernel_exports::Kernel;
@@ -29,7 +31,12 @@ impl<'a> Model for ExportItem<'a> {
 
     ghost Value = { Item };
 
-    ghost view = { λ i. record { place = i.place; path = i.path.now; export = record { name = i.name.now; crc = i.crc; gpl = i.gpl; space = i.space.now } } };
+    ghost view = { λ i. record {
+      place = i.place;
+      path = i.path.now;
+      export
+          = record { name = i.name.now; crc = i.crc; gpl = i.gpl; space = i.space.now };
+    } };
 }
 
 impl<'a> ExportItem<'a> {
@@ -81,7 +88,8 @@ fn push_kernel_items<'a>(
     items: &mut Vec<ExportItem<'a>>,
     kernel: &'a Kernel,
 ) -> Result<(), AllocError>
-    ensures { OnOk result (items.new.items ≡ items.old.items ++ map kernel_item kernel.now.exports) }
+    ensures { OnOk result
+        (items.new.items ≡ items.old.items ++ map kernel_item kernel.now.exports) }
 {
     for export in kernel.exports.as_slice() {
         items.push(ExportItem {
@@ -102,7 +110,9 @@ fn push_module_items<'a>(
     facts: &'a Facts,
     place: u32,
 ) -> Result<(), AllocError>
-    ensures { OnOk result (items.new.items ≡ items.old.items ++ map (module_item place facts.now.path) facts.now.exports) }
+    ensures { OnOk result
+        (items.new.items
+        ≡ items.old.items ++ map (module_item place facts.now.path) facts.now.exports) }
 {
     for export in facts.exports.as_slice() {
         items.push(ExportItem {
@@ -124,7 +134,8 @@ pub(crate) fn all_items<'a>(
     kernel: &'a Kernel,
 ) -> Result<Vec<ExportItem<'a>>, AllocError>
     requires { IsTree tree.now }
-    ensures { IfOk result (λ items. items.items ≡ items_spec (modules_of tree.now) (kernel_of kernel.now)) }
+    ensures { IfOk result
+        (λ items. items.items ≡ items_spec (modules_of tree.now) (kernel_of kernel.now)) }
 {
     let mut items = Vec::new(alloc);
     push_kernel_items(&mut items, kernel)?;
@@ -173,7 +184,8 @@ pub(crate) fn all_bound(
     names: &OwnedNameTable,
     tree: &TreeFacts,
 ) -> Result<Vec<Vec<Option<u32>>>, AllocError>
-    ensures { IfOk result (λ bound. map (λ b. b.items) bound.items ≡ map (λ f. bound_of names.now f.needs) tree.now) }
+    ensures { IfOk result
+        (λ bound. map (λ b. b.items) bound.items ≡ map (λ f. bound_of names.now f.needs) tree.now) }
 {
     let mut bound = Vec::new(alloc);
     for facts in tree.as_slice() {

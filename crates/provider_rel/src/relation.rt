@@ -1,5 +1,6 @@
 // The relation of a tree.
-ghost use Rattle.std.specs.Prelude.{◌≡◌, ◌<◌, ◌⊎◌, ◌^◌, [], ◌∷◌, Some, None, length, map, slice_get, All, IfOk, IfErr, OnOk};
+ghost use Rattle.std.specs.Prelude.{◌≡◌, ◌<◌, ◌⊎◌, ◌^◌, [], ◌∷◌, Some, None, length, map};
+ghost use Rattle.std.specs.Prelude.{slice_get, All, IfOk, IfErr, OnOk};
 ghost use Rattle.std.specs.List.{sum_by};
 ghost use Rattle.km_names.specs.First.{first};
 ghost use Rattle.name_table.specs.NameTable.{IsTableOf};
@@ -8,8 +9,10 @@ ghost use Rattle.relation_order.specs.Sets.{below};
 ghost use Rattle.relation_order.specs.Cycle.{cycle};
 ghost use Rattle.provider_rel.specs.Faces.{modules_of, kernel_of};
 ghost use Rattle.provider_rel.specs.Tree.{IsTree};
-ghost use Rattle.provider_rel.specs.Relation.{uses_at, name_at, cycle_fault, deps_fault, doubles_fault, dependencies, relation_fault};
-ghost use Rattle.provider_rel.specs.Seen.{provider_by, places_of, closures_by, obstacles_by, IsRelation};
+ghost use Rattle.provider_rel.specs.Relation.{uses_at, name_at, cycle_fault, deps_fault};
+ghost use Rattle.provider_rel.specs.Relation.{doubles_fault, dependencies, relation_fault};
+ghost use Rattle.provider_rel.specs.Seen.{provider_by, places_of, closures_by, obstacles_by};
+ghost use Rattle.provider_rel.specs.Seen.{IsRelation};
 ghost use Rattle.provider_rel.specs.Items.{item_answer, item_name, item_doubles, answer_at};
 ghost use Rattle.provider_rel.specs.Bindings.{AreBindings};
 
@@ -79,10 +82,15 @@ fn reach(
 ) -> Result<Closures, RelationFault>
     requires tree { IsTree tree.now }
     requires bindings { AreBindings tree.now kernel.now bindings.now }
-    ensures ok { IfOk result (λ all. all ≡ dependencies (modules_of tree.now) (kernel_of kernel.now)) }
-    ensures passed { OnOk result (cycle (uses_at (modules_of tree.now) (kernel_of kernel.now)) (below (length tree.now)) ≡ []) }
+    ensures ok { IfOk result
+        (λ all. all ≡ dependencies (modules_of tree.now) (kernel_of kernel.now)) }
+    ensures passed { OnOk result
+        (cycle (uses_at (modules_of tree.now) (kernel_of kernel.now)) (below (length tree.now))
+        ≡ []) }
     ensures err { IfErr result (λ fault. (fault ≡ RelationFault.Memory)
-        ⊎ (cycle_fault (modules_of tree.now) (cycle (uses_at (modules_of tree.now) (kernel_of kernel.now)) (below (length tree.now))) ≡ Some fault)) }
+        ⊎ (cycle_fault (modules_of tree.now)
+        (cycle (uses_at (modules_of tree.now) (kernel_of kernel.now)) (below (length tree.now)))
+        ≡ Some fault)) }
 {
     let lists = all_used(alloc, &bindings.items, &bindings.bound)?;
     let members = all_members(alloc, lists.len())?;
@@ -109,9 +117,14 @@ fn check_counts(
     requires closures { length closures.now < 2 ^ 32 }
     requires names { IsTableOf bindings.now.names (map item_name bindings.now.items.items) }
     requires few { length bindings.now.items.items < 2 ^ 32 }
-    ensures passed { OnOk result (first (deps_fault (sum_by length closures.now) ∷ doubles_fault (length (item_doubles [] bindings.now.items.items)) ∷ []) ≡ None) }
+    ensures passed { OnOk result
+        (first (deps_fault (sum_by length closures.now)
+        ∷ doubles_fault (length (item_doubles [] bindings.now.items.items)) ∷ [])
+        ≡ None) }
     ensures err { IfErr result (λ fault. (fault ≡ RelationFault.Memory)
-        ⊎ (first (deps_fault (sum_by length closures.now) ∷ doubles_fault (length (item_doubles [] bindings.now.items.items)) ∷ []) ≡ Some fault)) }
+        ⊎ (first (deps_fault (sum_by length closures.now)
+        ∷ doubles_fault (length (item_doubles [] bindings.now.items.items)) ∷ [])
+        ≡ Some fault)) }
 {
     let deps = closures.count();
     if deps > DEPENDENCY_LIMIT {
@@ -178,8 +191,11 @@ fn closures_of(
 ) -> Result<Vec<Order>, RelationFault>
     requires tree { IsTree tree.now }
     requires bindings { AreBindings tree.now kernel.now bindings.now }
-    ensures ok { IfOk result (λ closures. map places_of closures.items ≡ dependencies (modules_of tree.now) (kernel_of kernel.now)) }
-    ensures passed { OnOk result (relation_fault (modules_of tree.now) (kernel_of kernel.now) ≡ None) }
+    ensures ok { IfOk result
+        (λ closures. map places_of closures.items
+        ≡ dependencies (modules_of tree.now) (kernel_of kernel.now)) }
+    ensures passed { OnOk result
+        (relation_fault (modules_of tree.now) (kernel_of kernel.now) ≡ None) }
     ensures err { IfErr result (λ fault. (fault ≡ RelationFault.Memory)
         ⊎ (relation_fault (modules_of tree.now) (kernel_of kernel.now) ≡ Some fault)) }
 {
@@ -207,10 +223,15 @@ impl Lists {
     ) -> Result<Lists, RelationFault>
         requires tree { IsTree tree.now }
         requires bindings { AreBindings tree.now kernel.now bindings.now }
-        ensures owners { IfOk result (λ lists. lists.owners.items ≡ map item_answer bindings.now.items.items) }
-        ensures closures { IfOk result (λ lists. map places_of lists.closures.items ≡ dependencies (modules_of tree.now) (kernel_of kernel.now)) }
-        ensures unmet { IfOk result (λ lists. lists.unmet ≡ unmet (modules_of tree.now) (kernel_of kernel.now)) }
-        ensures passed { OnOk result (relation_fault (modules_of tree.now) (kernel_of kernel.now) ≡ None) }
+        ensures owners { IfOk result
+            (λ lists. lists.owners.items ≡ map item_answer bindings.now.items.items) }
+        ensures closures { IfOk result
+            (λ lists. map places_of lists.closures.items
+            ≡ dependencies (modules_of tree.now) (kernel_of kernel.now)) }
+        ensures unmet { IfOk result
+            (λ lists. lists.unmet ≡ unmet (modules_of tree.now) (kernel_of kernel.now)) }
+        ensures passed { OnOk result
+            (relation_fault (modules_of tree.now) (kernel_of kernel.now) ≡ None) }
         ensures err { IfErr result (λ fault. (fault ≡ RelationFault.Memory)
             ⊎ (relation_fault (modules_of tree.now) (kernel_of kernel.now) ≡ Some fault)) }
     {
@@ -238,8 +259,10 @@ impl Relation {
     /// - `TooManyDoubles` exactly if there are more than 100,000 double lines.
     pub fn make(alloc: Global, tree: &TreeFacts, kernel: &Kernel) -> Result<Relation, RelationFault>
         requires { IsTree tree.now }
-        ensures ok { IfOk result (λ relation. IsRelation (modules_of tree.now) (kernel_of kernel.now) relation) }
-        ensures passed { OnOk result (relation_fault (modules_of tree.now) (kernel_of kernel.now) ≡ None) }
+        ensures ok { IfOk result
+            (λ relation. IsRelation (modules_of tree.now) (kernel_of kernel.now) relation) }
+        ensures passed { OnOk result
+            (relation_fault (modules_of tree.now) (kernel_of kernel.now) ≡ None) }
         ensures err { IfErr result (λ fault. (fault ≡ RelationFault.Memory)
             ⊎ (relation_fault (modules_of tree.now) (kernel_of kernel.now) ≡ Some fault)) }
     {

@@ -25,7 +25,8 @@ pub(crate) enum UnmetKind {
 
 /// Returns whether a need has a line of a kind, if an export was found under its name.
 fn is_unmet_by(kind: UnmetKind, facts: &Facts, need: &Need, item: &ExportItem) -> bool
-    ensures { result ≡ test_of kind (Some item.now.export) (face_of facts.now) (need_of_facts need.now) }
+    ensures { result
+        ≡ test_of kind (Some item.now.export) (face_of facts.now) (need_of_facts need.now) }
 {
     let seen = sees(facts.free, item.gpl());
     match kind {
@@ -38,7 +39,10 @@ fn is_unmet_by(kind: UnmetKind, facts: &Facts, need: &Need, item: &ExportItem) -
 
 /// Returns whether a need has a line of a kind, if nothing was found under its name.
 fn is_unmet_alone(kind: UnmetKind, need: &Need, known: bool) -> bool
-    ensures { (facts : Facts) → result ≡ test_of kind (seen_under known need.now.name None) (face_of facts) (need_of_facts need.now) }
+    ensures { (facts : Facts)
+        → result
+        ≡ test_of kind (seen_under known need.now.name None) (face_of facts)
+        (need_of_facts need.now) }
 {
     match kind {
         UnmetKind::Missing => known && !need.weak,
@@ -97,7 +101,9 @@ fn push_line(
     found: Option<&ExportItem>,
     known: bool,
 ) -> Result<(), AllocError>
-    ensures { OnOk result (lines.new ≡ lines.old ++ line_if kind known facts.now need.now (option_copied found.entry)) }
+    ensures { OnOk result
+        (lines.new
+        ≡ lines.old ++ line_if kind known facts.now need.now (option_copied found.entry)) }
 {
     let (unmet, provider) = match found {
         Some(item) => (is_unmet_by(kind, facts, need, item), item.path()),
@@ -119,7 +125,11 @@ fn push_lines(
     bound: &[Option<u32>],
 ) -> Result<(), AllocError>
     requires { bound.now ≡ bound_of bindings.now.names facts.now.needs }
-    ensures { OnOk result (lines.new ≡ lines.old ++ lines_by kind bindings.now.known bindings.now.items.items bindings.now.names facts.now) }
+    ensures { OnOk result
+        (lines.new
+        ≡ lines.old
+        ++ lines_by kind bindings.now.known bindings.now.items.items bindings.now.names
+        facts.now) }
 {
     let needs = facts.needs.as_slice();
     for i in 0..needs.len() {
@@ -137,8 +147,14 @@ pub(crate) fn push_all_lines(
     tree: &TreeFacts,
     bindings: &Bindings,
 ) -> Result<(), AllocError>
-    requires { map (λ b. b.items) bindings.now.bound.items ≡ map (λ f. bound_of bindings.now.names f.needs) tree.now }
-    ensures { OnOk result (lines.new ≡ lines.old ++ flat_map (lines_by kind bindings.now.known bindings.now.items.items bindings.now.names) tree.now) }
+    requires { map (λ b. b.items) bindings.now.bound.items
+        ≡ map (λ f. bound_of bindings.now.names f.needs) tree.now }
+    ensures { OnOk result
+        (lines.new
+        ≡ lines.old
+        ++ flat_map
+        (lines_by kind bindings.now.known bindings.now.items.items bindings.now.names)
+        tree.now) }
 {
     let modules = tree.as_slice();
     for i in 0..modules.len() {

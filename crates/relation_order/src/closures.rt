@@ -187,7 +187,8 @@ fn marked_anywhere(
     requires { All (λ row. length row.items ≤ div_ceil (length rows.now) 64) rows.now }
     ensures same { IfOk result
         (λ found. map (marked_in found.items) rows.now ≡ map (marked_in order.now) rows.now) }
-    ensures fitting { IfOk result (λ found. Fitting rows.now order.now → Fitting rows.now found.items) }
+    ensures fitting { IfOk result
+        (λ found. Fitting rows.now order.now → Fitting rows.now found.items) }
 {
     let mut all = unmarked_row(alloc, rows.len())?;
     for row in rows {

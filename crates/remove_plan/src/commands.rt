@@ -1,5 +1,6 @@
 // The commands that are run instead of removing a module.
-ghost use Rattle.std.specs.Prelude.{◌≡◌, ◌<◌, ℕ, List, IfOk, map, option_and_then, option_copied, option_map, slice_get};
+ghost use Rattle.std.specs.Prelude.{◌≡◌, ◌<◌, ℕ, List, IfOk, map, option_and_then, option_copied};
+ghost use Rattle.std.specs.Prelude.{option_map, slice_get};
 ghost use Rattle.name_table.specs.NameTable.{IsTableOf};
 ghost use Rattle.remove_plan.specs.Steps.{removed_name, removing_command, remove_command};
 
@@ -54,7 +55,8 @@ fn rule_at(rules: &[Rule], place: Option<u32>) -> Option<&Rule>
 
 /// Returns the remove command of the rule at a place.
 fn command_at(rules: &[Rule], place: Option<u32>) -> Option<&[u8]>
-    ensures { option_map (λ command. command.now) result ≡ option_and_then removing_command (option_and_then (slice_get rules.now) place) }
+    ensures { option_map (λ command. command.now) result
+        ≡ option_and_then removing_command (option_and_then (slice_get rules.now) place) }
 {
     match rule_at(rules, place) {
         Some(rule) => removing_command(rule),

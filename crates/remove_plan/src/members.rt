@@ -13,7 +13,8 @@ fn goes(asked: &[bool], used: &[bool], kept: &[bool], k: usize) -> bool
     requires asked { k < length asked.now }
     requires used { k < length used.now }
     requires kept { k < length kept.now }
-    ensures { result ≡ (is_marked asked.now k || (is_marked used.now k && not (is_marked kept.now k))) }
+    ensures { result
+        ≡ (is_marked asked.now k || (is_marked used.now k && not (is_marked kept.now k))) }
 {
     asked[k] || used[k] && !kept[k]
 }

@@ -1,5 +1,6 @@
 // The plan of a removal.
-ghost use Rattle.std.specs.Prelude.{◌≡◌, ◌<◌, ◌⊎◌, ℕ, All, None, Some, IfOk, IfErr, OnOk, length, map};
+ghost use Rattle.std.specs.Prelude.{◌≡◌, ◌<◌, ◌⊎◌, ℕ, All, None, Some, IfOk, IfErr, OnOk, length};
+ghost use Rattle.std.specs.Prelude.{map};
 ghost use Rattle.name_table.specs.NameTable.{IsTableOf};
 ghost use Rattle.model_loader.specs.Use.{name_at};
 ghost use Rattle.remove_plan.specs.Marks.{is_marked};
@@ -45,7 +46,10 @@ fn remove_step(
 ) -> Result<RemoveStep, AllocError>
     requires place { k < length machine.now.entries }
     requires asked { k < length asked.now }
-    ensures { IfOk result (λ step. step ≡ remove_step machine.now choice.now.rules.now choice.now.ignored (is_marked asked.now) k) }
+    ensures { IfOk result
+        (λ step. step
+        ≡ remove_step machine.now choice.now.rules.now choice.now.ignored (is_marked asked.now)
+        k) }
 {
     let name = name_of(machine, k);
     let command = if choice.ignored && asked[k] {
@@ -73,7 +77,10 @@ fn steps(
 ) -> Result<RemovePlan, AllocError>
     requires going { All (λ (k : ℕ). k < length machine.now.entries) going.now }
     requires asked { length asked.now ≡ length machine.now.entries }
-    ensures { IfOk result (λ plan. plan ≡ map (remove_step machine.now choice.now.rules.now choice.now.ignored (is_marked asked.now)) going.now) }
+    ensures { IfOk result
+        (λ plan. plan
+        ≡ map (remove_step machine.now choice.now.rules.now choice.now.ignored
+        (is_marked asked.now)) going.now) }
 {
     let mut plan = RemovePlan::new(alloc);
     for k in going {
@@ -86,7 +93,8 @@ fn steps(
 fn used_by(alloc: Global, machine: &Machine, j: usize, k: usize) -> Result<RemoveFault, AllocError>
     requires module { j < length machine.now.entries }
     requires user { k < length machine.now.entries }
-    ensures { IfOk result (λ e. e ≡ RemoveFault.InUse (name_at machine.now j) (name_at machine.now k)) }
+    ensures { IfOk result
+        (λ e. e ≡ RemoveFault.InUse (name_at machine.now j) (name_at machine.now k)) }
 {
     Ok(RemoveFault::InUse {
         name: Name::from_slice(alloc, name_of(machine, j))?,
@@ -110,10 +118,14 @@ pub fn plan_removal(
     rules: &Rules,
     machine: &Machine,
 ) -> Result<RemovePlan, RemoveFault>
-    ensures plan { IfOk result (λ plan. plan ≡ removal_steps machine.now rules.now ignore_remove names.now) }
-    ensures least { OnOk result (AreRemoved machine.now (is_asked machine.now names.now) (removed_by machine.now names.now)) }
+    ensures plan { IfOk result
+        (λ plan. plan ≡ removal_steps machine.now rules.now ignore_remove names.now) }
+    ensures least { OnOk result
+        (AreRemoved machine.now (is_asked machine.now names.now)
+        (removed_by machine.now names.now)) }
     ensures passed { OnOk result (removal_fault machine.now names.now ≡ None) }
-    ensures fault { IfErr result (λ e. (e ≡ RemoveFault.Memory) ⊎ (removal_fault machine.now names.now ≡ Some e)) }
+    ensures fault { IfErr result
+        (λ e. (e ≡ RemoveFault.Memory) ⊎ (removal_fault machine.now names.now ≡ Some e)) }
 {
     let uses = machine.uses(alloc)?;
     let asked = asked(alloc, machine, names)?;

@@ -1,5 +1,6 @@
 // The users of the modules that are asked for.
-ghost use Rattle.std.specs.Prelude.{◌≡◌, ◌<◌, ◌&&◌, ℕ, not, All, None, Some, IfOk, IfSome, length, map, nat_eq, option_map, slice_index_or, if◌then◌else◌};
+ghost use Rattle.std.specs.Prelude.{◌≡◌, ◌<◌, ◌&&◌, ℕ, not, All, None, Some, IfOk, IfSome, length};
+ghost use Rattle.std.specs.Prelude.{map, nat_eq, option_map, slice_index_or, if◌then◌else◌};
 ghost use Rattle.std.specs.List.{list_any};
 ghost use Rattle.std.specs.Option.{option_or};
 ghost use Rattle.model_loader.specs.Use.{AreUses};
@@ -15,7 +16,12 @@ fn note_outside(asked: &[bool], users: &mut [Option<usize>], uses: &[usize], k: 
     requires asked { k < length asked.now }
     requires uses { All (λ (j : ℕ). j < length users.old) uses.now }
     ensures counted { length users.new ≡ length users.old }
-    ensures at { (j : ℕ) → slice_index_or users.new j None ≡ option_or (slice_index_or users.old j None) (if list_any (nat_eq j) uses.now && not (is_marked asked.now k) then Some k else None) }
+    ensures at { (j : ℕ)
+        → slice_index_or users.new j None
+        ≡ option_or (slice_index_or users.old j None)
+        (if list_any (nat_eq j) uses.now && not (is_marked asked.now k)
+        then Some k
+        else None) }
 {
     if !asked[k] {
         note(users, uses, k);
@@ -31,7 +37,8 @@ fn users_outside(
 ) -> Result<Vec<Option<usize>>, AllocError>
     requires uses { AreUses machine.now (map (λ u. u.items) uses.now) }
     requires asked { length asked.now ≡ length machine.now.entries }
-    ensures { IfOk result (λ v. AreUsers machine.now (is_marked asked.now) (length machine.now.entries) v.items) }
+    ensures { IfOk result
+        (λ v. AreUsers machine.now (is_marked asked.now) (length machine.now.entries) v.items) }
 {
     let count = machine.module_count();
     let mut users = vec![in alloc; None; count]?;
@@ -45,7 +52,10 @@ fn users_outside(
 fn used(asked: &[bool], users: &[Option<usize>], j: usize) -> Option<(usize, usize)>
     requires asked { j < length asked.now }
     requires users { j < length users.now }
-    ensures { result ≡ (if is_marked asked.now j then option_map (λ k. (j, k)) (slice_index_or users.now j None) else None) }
+    ensures { result
+        ≡ (if is_marked asked.now j
+        then option_map (λ k. (j, k)) (slice_index_or users.now j None)
+        else None) }
 {
     if !asked[j] {
         return None;
@@ -58,9 +68,11 @@ fn used(asked: &[bool], users: &[Option<usize>], j: usize) -> Option<(usize, usi
 /// user. `users` has that user of each module.
 fn first_used(machine: &Machine, asked: &[bool], users: &[Option<usize>]) -> Option<(usize, usize)>
     requires asked { length asked.now ≡ length machine.now.entries }
-    requires users { AreUsers machine.now (is_marked asked.now) (length machine.now.entries) users.now }
+    requires users { AreUsers machine.now (is_marked asked.now) (length machine.now.entries)
+        users.now }
     ensures found { result ≡ in_use machine.now (is_marked asked.now) }
-    ensures within { IfSome result (λ p. (p.0 < length machine.now.entries) × (p.1 < length machine.now.entries)) }
+    ensures within { IfSome result
+        (λ p. (p.0 < length machine.now.entries) × (p.1 < length machine.now.entries)) }
 {
     for j in 0..machine.module_count() {
         if let Some(found) = used(asked, users, j) {
@@ -80,7 +92,9 @@ pub(crate) fn in_use(
     requires uses { AreUses machine.now (map (λ u. u.items) uses.now) }
     requires asked { length asked.now ≡ length machine.now.entries }
     ensures found { IfOk result (λ found. found ≡ in_use machine.now (is_marked asked.now)) }
-    ensures within { IfOk result (λ found. IfSome found (λ p. (p.0 < length machine.now.entries) × (p.1 < length machine.now.entries))) }
+    ensures within { IfOk result
+        (λ found. IfSome found
+        (λ p. (p.0 < length machine.now.entries) × (p.1 < length machine.now.entries))) }
 {
     let users = users_outside(alloc, machine, uses, asked)?;
     Ok(first_used(machine, asked, &users))

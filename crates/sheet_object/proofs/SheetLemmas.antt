@@ -1,5 +1,6 @@
 -- What the conditions of a sheet say to its writer.
-use Rattle.std.proofs.Common.{◌≡◌, ℕ, ◌<◌, ◌≤◌, ◌^◌, Bool, true, false, ◌&&◌, nat_le, nat_lt, List, [], ◌∷◌, length, map, All, sym, true≢false, refl, ◌∙◌, arith}
+use Rattle.std.proofs.Common.{◌≡◌, ℕ, ◌<◌, ◌≤◌, ◌^◌, Bool, true, false, ◌&&◌, nat_le, nat_lt, List}
+use Rattle.std.proofs.Common.{[], ◌∷◌, length, map, All, sym, true≢false, refl, ◌∙◌, arith}
 use Rattle.std.proofs.lemmas.Bool.{leb-true, ltb-true}
 use Rattle.std.proofs.lemmas.List.{length-map}
 use Rattle.std.proofs.lemmas.List.Elements.{All-nil, All-cons}
@@ -11,7 +12,9 @@ use Rattle.sheet_object.specs.declared.sheet.SheetMore.{SheetMore}
 use Rattle.sheet_object.specs.declared.sheet.SheetNeed.{SheetNeed}
 use Rattle.sheet_object.specs.declared.sheet.SheetSpace.{SheetSpace}
 use Rattle.sheet_object.specs.declared.sheet.SheetVersion.{SheetVersion}
-use Rattle.sheet_object.specs.Sheet.{has_no_nul, is_few, is_text, is_version, is_extended, is_space, are_few, are_texts, are_known, are_chosen, is_sheet, symbol_names, export_names, spaced_names}
+use Rattle.sheet_object.specs.Sheet.{has_no_nul, is_few, is_text, is_version, is_extended, is_space}
+use Rattle.sheet_object.specs.Sheet.{are_few, are_texts, are_known, are_chosen, is_sheet}
+use Rattle.sheet_object.specs.Sheet.{symbol_names, export_names, spaced_names}
 use Rattle.sheet_object.proofs.DistinctLemmas.{chosen-few}
 
 -- how long the lists, names and texts are at most
@@ -31,14 +34,18 @@ both true b h = (refl, h)
 both false b h = absurd (true≢false (sym h))
 
 -- a test that each item passes, by what it says
-pub All-from_test : {X : Type 0} (p : X → Bool) (P : X → Type 0) (xs : List X) → ((x : X) → p x ≡ true → P x) → list_all p xs ≡ true → All P xs
+pub All-from_test : {X : Type 0} (p : X → Bool) (P : X → Type 0) (xs : List X)
+    → ((x : X) → p x ≡ true → P x) → list_all p xs ≡ true → All P xs
 All-from_test p P [] says h = All-nil P
 All-from_test p P (x ∷ xs) says h =
-    let w = both (p x) (list_all p xs) h in All-cons P x xs (says x w.0) (All-from_test p P xs says w.1)
+    let w
+    = both (p x) (list_all p xs) h in All-cons P x xs (says x w.0)
+    (All-from_test p P xs says w.1)
 
 short-text : (text : List ℕ) → is_text text ≡ true → length text ≤ 4096
 unfolding is_text
-short-text text h = leb-true (length text) 4096 (both (nat_le (length text) 4096) (has_no_nul text) h).0
+short-text text h =
+    leb-true (length text) 4096 (both (nat_le (length text) 4096) (has_no_nul text) h).0
 
 -- how long the lists of a sheet are at most
 pub record Few (s : Sheet) : Type 0 where
@@ -71,7 +78,13 @@ chosen s m h =
     let exports = length-map s.exports (λ (e : SheetExport). e.name) in
     record {
       gpl = omega (arith, exports, chosen-few (export_names s) m.gpl known-1.1);
-      spaces = omega (arith, exports, length-map m.spaces (λ (p : SheetSpace). p.name), chosen-few (export_names s) (spaced_names m) known-2.1);
+      spaces
+          = omega (
+            arith,
+            exports,
+            length-map m.spaces (λ (p : SheetSpace). p.name),
+            chosen-few (export_names s) (spaced_names m) known-2.1,
+          );
     }
 
 pub fits : (s : Sheet) (m : SheetMore) → is_sheet s m ≡ true → Fits s m
@@ -85,8 +98,11 @@ fits s m h =
     let texts-3 = both _ (list_all is_extended m.ext) texts-4.0 in
     let texts-2 = both _ (list_all is_text (symbol_names s)) texts-3.0 in
     let texts-1 = both (list_all is_text s.texts) (list_all is_version s.versions) texts-2.0 in
-    let names = both (list_all is_text (export_names s)) (list_all is_text (map (λ (n : SheetNeed). n.name) s.needs))
-    (sym (list_all-append is_text (export_names s) (map (λ (n : SheetNeed). n.name) s.needs)) ∙ texts-2.1) in
+    let names
+    = both (list_all is_text (export_names s))
+    (list_all is_text (map (λ (n : SheetNeed). n.name) s.needs))
+    (sym (list_all-append is_text (export_names s) (map (λ (n : SheetNeed). n.name) s.needs))
+    ∙ texts-2.1) in
     record {
       exports = short.exports;
       needs = short.needs;
@@ -94,11 +110,17 @@ fits s m h =
       gpl = omega (arith, short.exports, among.gpl);
       spaces = omega (arith, short.exports, among.spaces);
       versions = All-from_test is_version (λ v. length v.name ≤ 55) s.versions
-          (λ v e. leb-true (length v.name) 55 (both (is_text v.name) (nat_le (length v.name) 55) e).1) texts-1.1;
-      export_names = All-from_test (λ (e : SheetExport). is_text e.name) (λ e. length e.name ≤ 4096) s.exports (λ e h. short-text e.name h)
+          (λ v e. leb-true (length v.name) 55
+          (both (is_text v.name) (nat_le (length v.name) 55) e).1) texts-1.1;
+      export_names
+          = All-from_test (λ (e : SheetExport). is_text e.name) (λ e. length e.name ≤ 4096)
+          s.exports (λ e h. short-text e.name h)
           (sym (list_all-map is_text (λ (e : SheetExport). e.name) s.exports) ∙ names.0);
-      need_names = All-from_test (λ (n : SheetNeed). is_text n.name) (λ n. length n.name ≤ 4096) s.needs (λ n h. short-text n.name h)
+      need_names
+          = All-from_test (λ (n : SheetNeed). is_text n.name) (λ n. length n.name ≤ 4096) s.needs
+          (λ n h. short-text n.name h)
           (sym (list_all-map is_text (λ (n : SheetNeed). n.name) s.needs) ∙ names.1);
       ext = All-from_test is_extended (λ v. v.crc < 2 ^ 32) m.ext
-          (λ v e. ltb-true v.crc (2 ^ 32) (both (has_no_nul v.name) (nat_lt v.crc (2 ^ 32)) e).1) texts-3.1;
+          (λ v e. ltb-true v.crc (2 ^ 32) (both (has_no_nul v.name) (nat_lt v.crc (2 ^ 32)) e).1)
+          texts-3.1;
     }

@@ -35,7 +35,8 @@ versions_bytes s = flat_map version_bytes s.versions
 -- The relocation of the word k. Elf64_Rela.
 abbrev pub place_bytes : Sheet → SheetMore → ℕ → SheetPlace → List ℕ
 place_bytes s m k p =
-    xword (8 * k) ++ word p.kind ++ word (symbol_number s m p.symbol) ++ xword (cast_unsigned w64 p.addend)
+    xword (8 * k) ++ word p.kind ++ word (symbol_number s m p.symbol)
+    ++ xword (cast_unsigned w64 p.addend)
 
 -- The relocations of the words from k on.
 abbrev pub places_bytes : Sheet → SheetMore → ℕ → List SheetPlace → List ℕ

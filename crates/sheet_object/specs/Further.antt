@@ -1,6 +1,7 @@
 -- The further sections of a sheet, each only if its list isn't empty: extended versions, GPL-only
 -- exports and the texts of namespaces. The kernel's include/linux/export.h, scripts/mod/modpost.c.
-use Rattle.std.specs.Prelude.{ℕ, ◌+◌, ◌*◌, List, [], ◌∷◌, ◌++◌, length, take, codes, Option, option_map, position}
+use Rattle.std.specs.Prelude.{ℕ, ◌+◌, ◌*◌, List, [], ◌∷◌, ◌++◌, length, take, codes, Option}
+use Rattle.std.specs.Prelude.{option_map, position}
 use Rattle.std.specs.List.{flat_map}
 use Rattle.std.specs.Str.{bytes_eq}
 use Rattle.elf_format.specs.declared.section.TheConstants.{SHT_PROGBITS, SHF_ALLOC}
@@ -30,11 +31,13 @@ space_bytes spaces = flat_map (λ (p : SheetSpace). with_nul p.space) spaces
 -- The attributes of the further sections: they have bytes in the file, and are loaded. gABI 4,
 -- "Sections".
 abbrev pub further_attributes : Attributes
-further_attributes = record { kind = SHT_PROGBITS; flags = SHF_ALLOC; link = 0; info = 0; align = 8; entry_size = 0 }
+further_attributes =
+    record { kind = SHT_PROGBITS; flags = SHF_ALLOC; link = 0; info = 0; align = 8; entry_size = 0 }
 
 -- A further section, by its name and its content.
 abbrev pub further_part : List ℕ → List ℕ → Part
-further_part name content = record { name = name; attributes = further_attributes; content = content }
+further_part name content =
+    record { name = name; attributes = further_attributes; content = content }
 
 -- Sections that are present only if a list isn't empty.
 abbrev pub unless_empty : {X : Type 0} → List X → List Part → List Part
@@ -44,16 +47,20 @@ unless_empty (x ∷ xs) parts = parts
 -- The two sections of extended versions. The kernel's scripts/mod/modpost.c.
 abbrev pub version_parts : SheetMore → List Part
 version_parts m =
-    unless_empty m.ext (further_part (codes "__version_ext_crcs") (crc_bytes m.ext) ∷ further_part (codes "__version_ext_names") (name_bytes m.ext) ∷ [])
+    unless_empty m.ext
+    (further_part (codes "__version_ext_crcs") (crc_bytes m.ext)
+    ∷ further_part (codes "__version_ext_names") (name_bytes m.ext) ∷ [])
 
 -- The section of GPL-only exports, 8 zeros for each. The kernel's include/linux/export.h,
 -- EXPORT_SYMBOL_GPL.
 abbrev pub gpl_parts : SheetMore → List Part
-gpl_parts m = unless_empty m.gpl (further_part (codes "__ksymtab_gpl") (zeros (8 * length m.gpl)) ∷ [])
+gpl_parts m =
+    unless_empty m.gpl (further_part (codes "__ksymtab_gpl") (zeros (8 * length m.gpl)) ∷ [])
 
 -- The section of the texts of namespaces. The kernel's include/linux/export.h, EXPORT_SYMBOL_NS.
 abbrev pub space_parts : SheetMore → List Part
-space_parts m = unless_empty m.spaces (further_part (codes "__ksymtab_strings") (space_bytes m.spaces) ∷ [])
+space_parts m =
+    unless_empty m.spaces (further_part (codes "__ksymtab_strings") (space_bytes m.spaces) ∷ [])
 
 -- The sections from 9 on, in their order.
 unfoldable pub further_parts : SheetMore → List Part
@@ -73,4 +80,5 @@ text_place spaces k = length (space_bytes (take k spaces))
 
 -- The place in `__ksymtab_strings` of the namespace of an export, if it has one.
 unfoldable pub space_place : SheetMore → List ℕ → Option ℕ
-space_place m name = option_map (text_place m.spaces) (position (λ (p : SheetSpace). bytes_eq p.name name) m.spaces)
+space_place m name =
+    option_map (text_place m.spaces) (position (λ (p : SheetSpace). bytes_eq p.name name) m.spaces)

@@ -1,5 +1,6 @@
 -- The conditions of a sheet and its additions.
-use Rattle.std.specs.Prelude.{ℕ, ◌++◌, ◌^◌, ◌&&◌, ◌==◌, Bool, true, not, nat_le, nat_lt, List, [], ◌∷◌, length, map}
+use Rattle.std.specs.Prelude.{ℕ, ◌++◌, ◌^◌, ◌&&◌, ◌==◌, Bool, true, not, nat_le, nat_lt, List, []}
+use Rattle.std.specs.Prelude.{◌∷◌, length, map}
 use Rattle.std.specs.List.{list_all, list_any}
 use Rattle.std.specs.Str.{bytes_eq}
 use Rattle.sheet_object.specs.declared.sheet.Sheet.{Sheet}
@@ -63,7 +64,8 @@ are_distinct (name ∷ names) = not (is_among names name) && are_distinct names
 
 -- Whether no list of a sheet is too long.
 unfoldable pub are_few : Sheet → Bool
-are_few s = is_few s.texts && is_few s.versions && is_few s.exports && is_few s.needs && is_few s.places
+are_few s =
+    is_few s.texts && is_few s.versions && is_few s.exports && is_few s.needs && is_few s.places
 
 -- Whether texts and names are texts, and numbers and namespaces can be written.
 unfoldable pub are_texts : Sheet → SheetMore → Bool

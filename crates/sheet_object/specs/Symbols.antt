@@ -1,8 +1,10 @@
 -- The symbols of a sheet's object. gABI 4, "Symbol Table"; the kernel's include/linux/export.h.
-use Rattle.std.specs.Prelude.{ℕ, Bool, ◌+◌, ◌*◌, if◌then◌else◌, List, [], ◌∷◌, ◌++◌, length, map, codes, Option, Some, None, position, unwrap_or}
+use Rattle.std.specs.Prelude.{ℕ, Bool, ◌+◌, ◌*◌, if◌then◌else◌, List, [], ◌∷◌, ◌++◌, length, map}
+use Rattle.std.specs.Prelude.{codes, Option, Some, None, position, unwrap_or}
 use Rattle.std.specs.List.{flat_map}
 use Rattle.std.specs.Str.{bytes_eq}
-use Rattle.elf_format.specs.declared.symbol.TheConstants.{SHN_ABS, SHN_UNDEF, STB_LOCAL, STB_GLOBAL, STB_WEAK, STT_NOTYPE, STT_FUNC}
+use Rattle.elf_format.specs.declared.symbol.TheConstants.{SHN_ABS, SHN_UNDEF, STB_LOCAL, STB_GLOBAL}
+use Rattle.elf_format.specs.declared.symbol.TheConstants.{STB_WEAK, STT_NOTYPE, STT_FUNC}
 use Rattle.sheet_object.specs.declared.section.TheConstants.{TEXT}
 use Rattle.sheet_object.specs.declared.sheet.Sheet.{Sheet}
 use Rattle.sheet_object.specs.declared.sheet.SheetExport.{SheetExport}
@@ -31,7 +33,13 @@ info_of binding kind = 16 * binding + kind
 -- A local symbol of no type, at a value in a section.
 abbrev pub local_symbol : List ℕ → ℕ → ℕ → SymbolEntry
 local_symbol name section value =
-    record { name = name; info = info_of STB_LOCAL STT_NOTYPE; section = section; value = value; size = 0 }
+    record {
+      name = name;
+      info = info_of STB_LOCAL STT_NOTYPE;
+      section = section;
+      value = value;
+      size = 0;
+    }
 
 -- `__crc_N`, an absolute symbol, for an export that states its version.
 abbrev pub version_symbols : List ℕ → Option ℕ → List SymbolEntry
@@ -47,14 +55,22 @@ space_symbols name section (Some at) = local_symbol (codes "__kstrtabns_" ++ nam
 unfoldable pub local_symbols : SheetMore → SheetExport → List SymbolEntry
 local_symbols m e =
     local_symbol (codes "__ksymtab_" ++ e.name) (table_section m e.name) 0
-    ∷ version_symbols e.name e.crc ++ space_symbols e.name (strings_section m) (space_place m e.name)
+    ∷ version_symbols e.name e.crc
+    ++ space_symbols e.name (strings_section m) (space_place m e.name)
 
 -- The symbols of the exports from number j on, each a global function of 16 bytes after the one
 -- before it.
 abbrev pub export_symbols : ℕ → List SheetExport → List SymbolEntry
 export_symbols j [] = []
 export_symbols j (e ∷ exports) =
-    record { name = e.name; info = info_of STB_GLOBAL STT_FUNC; section = TEXT; value = 16 * j; size = 16 } ∷ export_symbols (j + 1) exports
+    record {
+      name = e.name;
+      info = info_of STB_GLOBAL STT_FUNC;
+      section = TEXT;
+      value = 16 * j;
+      size = 16;
+    }
+    ∷ export_symbols (j + 1) exports
 
 -- The info of an undefined symbol.
 abbrev pub need_info : Bool → ℕ
@@ -62,7 +78,8 @@ need_info weak = if weak then info_of STB_WEAK STT_NOTYPE else info_of STB_GLOBA
 
 -- An undefined symbol, global or weak.
 abbrev pub need_symbol : SheetNeed → SymbolEntry
-need_symbol n = record { name = n.name; info = need_info n.weak; section = SHN_UNDEF; value = 0; size = 0 }
+need_symbol n =
+    record { name = n.name; info = need_info n.weak; section = SHN_UNDEF; value = 0; size = 0 }
 
 -- The local symbols of all exports.
 unfoldable pub locals : Sheet → SheetMore → List SymbolEntry
@@ -78,7 +95,8 @@ local_count s m = 1 + length (locals s m)
 
 -- The number of the symbol of this name: exports and needs are after the local symbols.
 unfoldable pub symbol_number : Sheet → SheetMore → List ℕ → ℕ
-symbol_number s m name = local_count s m + unwrap_or (position (λ other. bytes_eq other name) (symbol_names s)) 0
+symbol_number s m name =
+    local_count s m + unwrap_or (position (λ other. bytes_eq other name) (symbol_names s)) 0
 
 -- The names of symbols, each with its NUL.
 abbrev pub names_bytes : List SymbolEntry → List ℕ
@@ -91,4 +109,5 @@ symbol_bytes at e = word at ++ e.info ∷ 0 ∷ half e.section ++ xword e.value 
 -- The entries of symbols whose names begin at this place.
 abbrev pub entries_bytes : ℕ → List SymbolEntry → List ℕ
 entries_bytes at [] = []
-entries_bytes at (e ∷ symbols) = symbol_bytes at e ++ entries_bytes (at + (length e.name + 1)) symbols
+entries_bytes at (e ∷ symbols) =
+    symbol_bytes at e ++ entries_bytes (at + (length e.name + 1)) symbols

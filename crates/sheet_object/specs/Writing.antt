@@ -12,9 +12,11 @@ names_of keys = map (λ (k : Bor (List ℕ)). k.now) keys
 
 -- The symbol of this name with these numbers.
 abbrev pub named : List ℕ → Symbol → SymbolEntry
-named name s = record { name = name; info = s.info; section = s.section; value = s.value; size = s.size }
+named name s =
+    record { name = name; info = s.info; section = s.section; value = s.value; size = s.size }
 
 -- The table has gained these symbols.
 pub record Adds (old new : SymbolTable) (added : List SymbolEntry) : Type 0 where
-  pub entries : new.entries.items ≡ old.entries.items ++ entries_bytes (length old.names.items) added
+  pub entries : new.entries.items
+      ≡ old.entries.items ++ entries_bytes (length old.names.items) added
   pub names : new.names.items ≡ old.names.items ++ names_bytes added

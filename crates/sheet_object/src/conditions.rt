@@ -2,7 +2,9 @@
 ghost use Rattle.std.specs.Prelude.{◌≡◌, ◌≤◌, ◌&&◌, ℕ, List, [], true, length, map, Some, IfOk};
 ghost use Rattle.std.specs.List.{list_all};
 ghost use Rattle.name_table.specs.NameTable.{IsTableOf};
-ghost use Rattle.sheet_object.specs.Sheet.{has_no_nul, is_few, is_text, is_version, is_extended, is_space, is_among, are_distinct, are_chosen, are_few, are_texts, are_known, symbol_names, is_sheet};
+ghost use Rattle.sheet_object.specs.Sheet.{has_no_nul, is_few, is_text, is_version, is_extended};
+ghost use Rattle.sheet_object.specs.Sheet.{is_space, is_among, are_distinct, are_chosen, are_few};
+ghost use Rattle.sheet_object.specs.Sheet.{are_texts, are_known, symbol_names, is_sheet};
 ghost use Rattle.sheet_object.specs.Writing.{names_of};
 
 use crate::names::{Named, symbol_names, table_of};
@@ -174,7 +176,8 @@ fn are_among<S: Named, T: Named>(
     items: &[T],
 ) -> Result<bool, AllocError>
     requires { length others.now ≤ 131070 }
-    ensures { IfOk result (λ b. b ≡ list_all (is_among (map S.name others.now)) (map T.name items.now)) }
+    ensures { IfOk result
+        (λ b. b ≡ list_all (is_among (map S.name others.now)) (map T.name items.now)) }
 {
     let table = table_of(alloc, others)?;
     Ok(has_each(&table, items))

@@ -1,8 +1,11 @@
 // The further sections of a sheet, and what symbols take from them.
-ghost use Rattle.std.specs.Prelude.{◌≡◌, ◌<◌, ◌≤◌, ◌*◌, ◌+◌, ◌^◌, ◌++◌, length, map, All, Some, OnOk, IfOk};
+ghost use Rattle.std.specs.Prelude.{◌≡◌, ◌<◌, ◌≤◌, ◌*◌, ◌+◌, ◌^◌, ◌++◌, length, map, All, Some};
+ghost use Rattle.std.specs.Prelude.{OnOk, IfOk};
 ghost use Rattle.std.specs.List.{range_with_len};
 ghost use Rattle.name_table.specs.NameTable.{IsTableOf};
-ghost use Rattle.sheet_object.specs.Further.{crc_bytes, name_bytes, space_bytes, further_part, version_parts, gpl_parts, space_parts, further_parts, gpl_section, strings_section, text_place, space_place};
+ghost use Rattle.sheet_object.specs.Further.{crc_bytes, name_bytes, space_bytes, further_part};
+ghost use Rattle.sheet_object.specs.Further.{version_parts, gpl_parts, space_parts, further_parts};
+ghost use Rattle.sheet_object.specs.Further.{gpl_section, strings_section, text_place, space_place};
 ghost use Rattle.sheet_object.specs.Sheet.{spaced_names};
 ghost use Rattle.sheet_object.specs.Symbols.{table_section};
 
@@ -162,7 +165,8 @@ pub(crate) struct Further<'a> {
 
 /// Returns the place of each text of a namespace.
 fn text_places(alloc: Global, spaces: &[SheetSpace]) -> Result<List<u64>, AllocError>
-    ensures { IfOk result (λ l. l ≡ map (text_place spaces.now) (range_with_len 0 (length spaces.now))) }
+    ensures { IfOk result
+        (λ l. l ≡ map (text_place spaces.now) (range_with_len 0 (length spaces.now))) }
 {
     let mut places = Vec::with_capacity(alloc, spaces.len())?;
     let mut place = 0_u64;

@@ -67,7 +67,8 @@ impl<'a> Named for &'a [u8] {
 
 /// Puts the names of items at the end, in their order.
 fn push_names<'a, T: Named>(names: &mut Vec<&'a [u8]>, items: &'a [T]) -> Result<(), AllocError>
-    ensures { OnOk result (names_of names.new.items ≡ names_of names.old.items ++ map T.name items.now) }
+    ensures { OnOk result
+        (names_of names.new.items ≡ names_of names.old.items ++ map T.name items.now) }
 {
     for item in items {
         names.push(item.name())?;

@@ -46,7 +46,8 @@ fn push_linked(
     further: &Further,
 ) -> Result<(), AllocError>
     requires { IsTrue (is_sheet sheet.now further.now.more.now) }
-    ensures { OnOk result (parts.new.items ≡ parts.old.items ++ linked_parts sheet.now further.now.more.now) }
+    ensures { OnOk result
+        (parts.new.items ≡ parts.old.items ++ linked_parts sheet.now further.now.more.now) }
 {
     let words = relocations(alloc, sheet, further)?;
     let relocated = Attributes::table(SHT_RELA, SHF_INFO_LINK, SYMTAB, DATA);

@@ -1,5 +1,6 @@
 // The relocations of the words of `.data`.
-ghost use Rattle.std.specs.Prelude.{◌≡◌, ◌≤◌, ◌<◌, ◌+◌, ◌*◌, ◌^◌, ◌++◌, ℕ, length, Some, unwrap_or, IsTrue, OnOk, IfOk};
+ghost use Rattle.std.specs.Prelude.{◌≡◌, ◌≤◌, ◌<◌, ◌+◌, ◌*◌, ◌^◌, ◌++◌, ℕ, length, Some, unwrap_or};
+ghost use Rattle.std.specs.Prelude.{IsTrue, OnOk, IfOk};
 ghost use Rattle.std.specs.List.{flat_map};
 ghost use Rattle.std.specs.Int.{w64, cast_unsigned};
 ghost use Rattle.name_table.specs.NameTable.{place_of};
@@ -33,7 +34,8 @@ fn locals_of(export: &SheetExport, further: &Further) -> u32
 /// Returns the number of local symbols, with the first symbol.
 pub(crate) fn local_count(exports: &[SheetExport], further: &Further) -> u32
     requires { length exports.now ≤ 65535 }
-    ensures count { result ≡ 1 + length (flat_map (local_symbols further.now.more.now) exports.now) }
+    ensures count { result
+        ≡ 1 + length (flat_map (local_symbols further.now.more.now) exports.now) }
     ensures bound { result ≤ 1 + 3 * length exports.now }
 {
     let mut count = 1;
@@ -61,7 +63,11 @@ fn push_relocation(
     symbol: u32,
     place: &SheetPlace,
 ) -> Result<(), AllocError>
-    ensures { OnOk result (out.new.items ≡ out.old.items ++ (xword offset ++ word place.now.kind ++ word symbol ++ xword (cast_unsigned w64 place.now.addend))) }
+    ensures { OnOk result
+        (out.new.items
+        ≡ out.old.items
+        ++ (xword offset ++ word place.now.kind ++ word symbol
+        ++ xword (cast_unsigned w64 place.now.addend))) }
 {
     push_xword(out, offset)?;
     push_word(out, place.kind)?;

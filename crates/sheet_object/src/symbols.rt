@@ -1,9 +1,11 @@
 // The symbols of an object, with their names.
-ghost use Rattle.std.specs.Prelude.{◌≡◌, ◌≤◌, ◌<◌, ◌+◌, ◌*◌, ◌^◌, [], ◌∷◌, ◌++◌, length, map, All, IsTrue, OnOk, IfOk};
+ghost use Rattle.std.specs.Prelude.{◌≡◌, ◌≤◌, ◌<◌, ◌+◌, ◌*◌, ◌^◌, [], ◌∷◌, ◌++◌, length, map, All};
+ghost use Rattle.std.specs.Prelude.{IsTrue, OnOk, IfOk};
 ghost use Rattle.std.specs.List.{flat_map};
 ghost use Rattle.sheet_object.specs.Sheet.{is_sheet};
 ghost use Rattle.elf_write.specs.Number.{zeros};
-ghost use Rattle.sheet_object.specs.Symbols.{local_symbols, version_symbols, space_symbols, export_symbols, need_info, need_symbol};
+ghost use Rattle.sheet_object.specs.Symbols.{local_symbols, version_symbols, space_symbols};
+ghost use Rattle.sheet_object.specs.Symbols.{export_symbols, need_info, need_symbol};
 ghost use Rattle.sheet_object.specs.Contents.{symtab_bytes, strtab_bytes};
 ghost use Rattle.sheet_object.specs.Writing.{named, Adds};
 
@@ -80,7 +82,8 @@ impl SymbolTable {
     /// Puts a symbol at the end, whose name is the given one after a prefix.
     fn push(&mut self, prefix: &[u8], name: &[u8], symbol: Symbol) -> Result<(), AllocError>
         requires { length self.old.names.items < 2 ^ 32 }
-        ensures { OnOk result (Adds self.old self.new (named (prefix.now ++ name.now) symbol ∷ [])) }
+        ensures { OnOk result
+            (Adds self.old self.new (named (prefix.now ++ name.now) symbol ∷ [])) }
     {
         push_word(&mut self.entries, self.names.len() as u32)?;
         self.entries.push(symbol.info)?;
@@ -125,7 +128,8 @@ impl SymbolTable {
     fn push_local(&mut self, export: &SheetExport, further: &Further) -> Result<(), AllocError>
         requires short { length export.now.name ≤ 4096 }
         requires fits { length self.old.names.items + 12319 < 2 ^ 32 }
-        ensures { OnOk result (Adds self.old self.new (local_symbols further.now.more.now export.now)) }
+        ensures { OnOk result
+            (Adds self.old self.new (local_symbols further.now.more.now export.now)) }
     {
         let name = export.name.as_bytes();
         let section = further.table_section(name);
@@ -139,8 +143,11 @@ impl SymbolTable {
     fn push_locals(&mut self, exports: &[SheetExport], further: &Further) -> Result<(), AllocError>
         requires short { All (λ e. length e.name ≤ 4096) exports.now }
         requires fits { length self.old.names.items + 12319 * length exports.now < 2 ^ 32 }
-        ensures added { OnOk result (Adds self.old self.new (flat_map (local_symbols further.now.more.now) exports.now)) }
-        ensures length { OnOk result (length self.new.names.items ≤ length self.old.names.items + 12319 * length exports.now) }
+        ensures added { OnOk result
+            (Adds self.old self.new (flat_map (local_symbols further.now.more.now) exports.now)) }
+        ensures length { OnOk result
+            (length self.new.names.items
+            ≤ length self.old.names.items + 12319 * length exports.now) }
     {
         for export in exports {
             self.push_local(export, further)?;
@@ -154,7 +161,9 @@ impl SymbolTable {
         requires short { All (λ e. length e.name ≤ 4096) exports.now }
         requires fits { length self.old.names.items + 4097 * length exports.now < 2 ^ 32 }
         ensures added { OnOk result (Adds self.old self.new (export_symbols 0 exports.now)) }
-        ensures length { OnOk result (length self.new.names.items ≤ length self.old.names.items + 4097 * length exports.now) }
+        ensures length { OnOk result
+            (length self.new.names.items
+            ≤ length self.old.names.items + 4097 * length exports.now) }
     {
         for (j, export) in exports.iter().enumerate() {
             let symbol = Symbol {
@@ -194,7 +203,8 @@ pub(crate) fn symbol_table(
     further: &Further,
 ) -> Result<SymbolTable, AllocError>
     requires { IsTrue (is_sheet sheet.now further.now.more.now) }
-    ensures entries { IfOk result (λ t. t.entries.items ≡ symtab_bytes sheet.now further.now.more.now) }
+    ensures entries { IfOk result
+        (λ t. t.entries.items ≡ symtab_bytes sheet.now further.now.more.now) }
     ensures names { IfOk result (λ t. t.names.items ≡ strtab_bytes sheet.now further.now.more.now) }
 {
     let exports = sheet.exports.as_slice();

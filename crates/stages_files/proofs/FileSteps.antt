@@ -23,31 +23,44 @@ use Rattle.stages_files.specs.IndexFile.{index_of, index_outcome}
 abbrev pub checked : List ℕ → List ℕ → Stage FileSections
 checked path bytes = given (sections_outcome path bytes (shape_fault bytes))
 
-pub checked_ok : (path bytes : List ℕ) (sections : FileSections) → sections ≡ file_sections bytes → shape_fault bytes ≡ None → sections_outcome path bytes (shape_fault bytes) ≡ value sections
+pub checked_ok : (path bytes : List ℕ) (sections : FileSections) → sections ≡ file_sections bytes
+    → shape_fault bytes ≡ None → sections_outcome path bytes (shape_fault bytes) ≡ value sections
 unfolding sections_outcome
 checked_ok path bytes sections e n = ap (sections_outcome path bytes) n ∙ ap value (sym e)
 
 -- a fault that isn't out of memory is the first test that fails
-pub checked_fault : (path bytes text : List ℕ) (fault : SectionFault) → (fault ≡ faults.Memory) ⊎ (shape_fault bytes ≡ Some fault) → (fault ≡ faults.Memory → ⊥) → text ≡ section_fault_text fault → sections_outcome path bytes (shape_fault bytes) ≡ end (Refused (BadModule path text))
+pub checked_fault : (path bytes text : List ℕ) (fault : SectionFault)
+    → (fault ≡ faults.Memory) ⊎ (shape_fault bytes ≡ Some fault) → (fault ≡ faults.Memory → ⊥)
+    → text ≡ section_fault_text fault
+    → sections_outcome path bytes (shape_fault bytes) ≡ end (Refused (BadModule path text))
 unfolding sections_outcome
 checked_fault path bytes text fault (inl m) wanting is = absurd (wanting m)
-checked_fault path bytes text fault (inr f) wanting is = ap (sections_outcome path bytes) f ∙ ap (λ t. end (Refused (BadModule path t))) (sym is)
+checked_fault path bytes text fault (inr f) wanting is =
+    ap (sections_outcome path bytes) f ∙ ap (λ t. end (Refused (BadModule path t))) (sym is)
 
 -- the stage after an index was read
 abbrev pub adopted : List ℕ → List ℕ → Stage Index
 adopted file bytes = given (index_outcome file bytes (index_fault bytes))
 
-pub adopted_ok : (file bytes : List ℕ) (index : Index) (o : Option Fault) → index.nodes ≡ bytes → o ≡ None → index_outcome file bytes o ≡ value index
+pub adopted_ok : (file bytes : List ℕ) (index : Index) (o : Option Fault) → index.nodes ≡ bytes
+    → o ≡ None → index_outcome file bytes o ≡ value index
 unfolding index_outcome
-adopted_ok file bytes index o e n = ap (index_outcome file bytes) n ∙ ap (λ b. value (index_of b)) (sym e)
+adopted_ok file bytes index o e n =
+    ap (index_outcome file bytes) n ∙ ap (λ b. value (index_of b)) (sym e)
 
 -- a fault that isn't out of memory is the first one of the file
-pub adopted_fault : (file bytes text : List ℕ) (o : Option Fault) (fault : IndexFault) → IsFirstFault o fault → (fault ≡ told.Memory → ⊥) → text ≡ index_fault_text fault → index_outcome file bytes o ≡ end (Refused (BadIndex file text))
+pub adopted_fault : (file bytes text : List ℕ) (o : Option Fault) (fault : IndexFault)
+    → IsFirstFault o fault → (fault ≡ told.Memory → ⊥) → text ≡ index_fault_text fault
+    → index_outcome file bytes o ≡ end (Refused (BadIndex file text))
 unfolding index_outcome
-adopted_fault file bytes text o told.BadMagic first wanting is = ap (index_outcome file bytes) first ∙ ap (λ t. end (Refused (BadIndex file t))) (sym is)
-adopted_fault file bytes text o told.BadVersion first wanting is = ap (index_outcome file bytes) first ∙ ap (λ t. end (Refused (BadIndex file t))) (sym is)
-adopted_fault file bytes text o (told.BadNode offset) first wanting is = ap (index_outcome file bytes) first ∙ ap (λ t. end (Refused (BadIndex file t))) (sym is)
-adopted_fault file bytes text o (told.Revisited offset) first wanting is = ap (index_outcome file bytes) first ∙ ap (λ t. end (Refused (BadIndex file t))) (sym is)
+adopted_fault file bytes text o told.BadMagic first wanting is =
+    ap (index_outcome file bytes) first ∙ ap (λ t. end (Refused (BadIndex file t))) (sym is)
+adopted_fault file bytes text o told.BadVersion first wanting is =
+    ap (index_outcome file bytes) first ∙ ap (λ t. end (Refused (BadIndex file t))) (sym is)
+adopted_fault file bytes text o (told.BadNode offset) first wanting is =
+    ap (index_outcome file bytes) first ∙ ap (λ t. end (Refused (BadIndex file t))) (sym is)
+adopted_fault file bytes text o (told.Revisited offset) first wanting is =
+    ap (index_outcome file bytes) first ∙ ap (λ t. end (Refused (BadIndex file t))) (sym is)
 adopted_fault file bytes text o told.Memory first wanting is = absurd (wanting refl)
 
 -- the stage after the index of a folder was read

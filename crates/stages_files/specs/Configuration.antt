@@ -1,6 +1,7 @@
 -- The files of a tool's configuration, and the order they count in. depmod.d(5), modprobe.d(5). The
 -- list of folders is this project's own.
-use Rattle.std.specs.Prelude.{ℕ, nat_eq, List, [], ◌∷◌, ◌++◌, map, codes, Option, Some, None, Result, Ok, Err}
+use Rattle.std.specs.Prelude.{ℕ, nat_eq, List, [], ◌∷◌, ◌++◌, map, codes, Option, Some, None}
+use Rattle.std.specs.Prelude.{Result, Ok, Err}
 use Rattle.std.specs.List.{ends_with}
 use Rattle.std.specs.FinMap as fin
 use Rattle.std.specs.Global.{Vec}
@@ -10,7 +11,8 @@ use Rattle.km_names.specs.declared.conf.ConfFile.{ConfFile}
 use Rattle.km_names.specs.declared.conf.ConfFault.{ConfFault}
 use Rattle.km_names.specs.declared.conf.ConfFault.TheVariants as faults
 use Rattle.km_outside.specs.Contents.{by_bytes}
-use Rattle.km_course.specs.Course.{Outcome, Stage, ◌>>=◌, gives, when◌then◌else◌, each_from, reads, lists_conf, lists_any_conf}
+use Rattle.km_course.specs.Course.{Outcome, Stage, ◌>>=◌, gives, when◌then◌else◌, each_from, reads}
+use Rattle.km_course.specs.Course.{lists_conf, lists_any_conf}
 use Rattle.km_course.specs.Course.Outcome.{value, end}
 use Rattle.km_course.specs.declared.end.End.TheVariants.{Refused}
 use Rattle.km_course.specs.declared.refusal.Refusal.TheVariants.{BadLine}
@@ -36,7 +38,8 @@ Named = fin.FinMap by_bytes (List ℕ)
 -- The files, with the files of these names in a folder in place of others of the same names.
 abbrev pub with_names : List ℕ → List (List ℕ) → Named → Named
 with_names folder [] files = files
-with_names folder (name ∷ names) files = with_names folder names (fin.insert files name (path_below folder name))
+with_names folder (name ∷ names) files =
+    with_names folder names (fin.insert files name (path_below folder name))
 
 -- The files of folders by their base names. Of equal names the file of the earlier folder counts.
 unfoldable pub by_name : List ListedFolder → Named
@@ -87,8 +90,8 @@ reads_configuration tool None = do
   folders ← lists_folders (folder_name tool) roots
   reads_listed folders
 
--- The outcome of reading files that state this, or whose first line that isn't understood is at this
--- place: the statements, or the refusal of the line.
+-- The outcome of reading files that state this, or whose first line that isn't understood is at
+-- this place: the statements, or the refusal of the line.
 abbrev pub stated_outcome : {X : Type 0} → Result X LinePlace → Outcome X
 stated_outcome (Ok stated) = value stated
 stated_outcome (Err place) = end (Refused (BadLine place.file place.number))

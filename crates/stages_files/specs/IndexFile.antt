@@ -3,9 +3,11 @@
 use Rattle.std.specs.Prelude.{ℕ, List, Option, Some, None}
 use Rattle.index_format.specs.Node.{root}
 use Rattle.index_format.specs.Walk.{at}
-use Rattle.index_format.specs.Check.{Fault, BadMagic as NoMagic, BadVersion as NoVersion, BadNode as NodeFault, Revisited as SecondVisit, index_fault}
+use Rattle.index_format.specs.Check.{Fault, BadMagic as NoMagic, BadVersion as NoVersion}
+use Rattle.index_format.specs.Check.{BadNode as NodeFault, Revisited as SecondVisit, index_fault}
 use Rattle.index_nodes.specs.declared.fault.IndexFault.{IndexFault}
-use Rattle.index_nodes.specs.declared.fault.IndexFault.TheVariants.{BadMagic, BadVersion, BadNode, Revisited}
+use Rattle.index_nodes.specs.declared.fault.IndexFault.TheVariants.{BadMagic, BadVersion, BadNode}
+use Rattle.index_nodes.specs.declared.fault.IndexFault.TheVariants.{Revisited}
 use Rattle.index_nodes.specs.Faults.{index_fault_text}
 use Rattle.index_read.specs.declared.index.Index.{Index}
 use Rattle.index_read.specs.Lookups.{text_of_first}
@@ -28,7 +30,8 @@ index_of bytes = record { nodes = bytes }
 -- The outcome of a file with this first fault: its index, or the refusal of the file.
 unfoldable pub index_outcome : List ℕ → List ℕ → Option Fault → Outcome Index
 index_outcome file bytes None = value (index_of bytes)
-index_outcome file bytes (Some fault) = end (Refused (BadIndex file (index_fault_text (told_fault fault))))
+index_outcome file bytes (Some fault) =
+    end (Refused (BadIndex file (index_fault_text (told_fault fault))))
 
 -- The index in the file at the path, which is needed.
 abbrev pub reads_index : List ℕ → Stage Index

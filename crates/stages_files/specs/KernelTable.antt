@@ -1,6 +1,7 @@
 -- The table of a kernel's exports, as the commands read it from a System.map or a Module.symvers.
 -- depmod(8), `-F` and `-E`.
-use Rattle.std.specs.Prelude.{ℕ, true, false, Bool, List, [], map, Option, Some, None, Result, Ok, Err}
+use Rattle.std.specs.Prelude.{ℕ, true, false, Bool, List, [], map, Option, Some, None, Result, Ok}
+use Rattle.std.specs.Prelude.{Err}
 use Rattle.symbol_binding.specs.Symbols.{Kernel as SeenKernel}
 use Rattle.kernel_exports.specs.declared.fault.KernelFault.{KernelFault}
 use Rattle.kernel_exports.specs.declared.fault.KernelFault.TheVariants.{BadKernelLine, Memory}

@@ -5,7 +5,11 @@ ghost use Rattle.std.specs.FinMap as fin;
 ghost use Rattle.km_names.specs.Limit.{file_limit};
 ghost use Rattle.km_outside.specs.Contents.{by_bytes};
 ghost use Rattle.km_course.specs.FollowsOn.{FollowsOnFiles};
-ghost use Rattle.stages_files.specs.Configuration.{roots as roots_spec, folder_name, with_names, paths_of, entries_in_bytes, lists_folder, lists_folders, reads_file, reads_files, reads_given, reads_listed, reads_configuration, stop_of};
+ghost use Rattle.stages_files.specs.Configuration.{roots as roots_spec, folder_name, with_names};
+ghost use Rattle.stages_files.specs.Configuration.{paths_of, entries_in_bytes, lists_folder};
+ghost use Rattle.stages_files.specs.Configuration.{lists_folders, reads_file, reads_files};
+ghost use Rattle.stages_files.specs.Configuration.{reads_given, reads_listed, reads_configuration};
+ghost use Rattle.stages_files.specs.Configuration.{stop_of};
 
 use km_course::{Refusal, Stop, list_conf_needed, list_conf_optional, read_needed};
 use km_names::{ConfFault, ConfFile, ConfFiles, List as Items, Names, PathText, Paths, join};
@@ -200,8 +204,10 @@ fn put_names(
     found: &mut BTreeMap<Vec<u8>, PathText>,
     folder: &ListedFolder,
 ) -> Result<(), AllocError>
-    ensures { OnOk result ((files : fin.FinMap by_bytes (List ℕ)) → entries_in_bytes found.old.entries ≡ fin.entries files →
-        entries_in_bytes found.new.entries ≡ fin.entries (with_names folder.now.path folder.now.names files)) }
+    ensures { OnOk result ((files : fin.FinMap by_bytes (List ℕ))
+        → entries_in_bytes found.old.entries ≡ fin.entries files →
+        entries_in_bytes found.new.entries
+        ≡ fin.entries (with_names folder.now.path folder.now.names files)) }
 {
     for name in folder.names.as_slice() {
         put_name(alloc, found, &folder.path, name.as_bytes())?;
@@ -215,8 +221,10 @@ fn put_name(
     folder: &PathText,
     name: &[u8],
 ) -> Result<(), AllocError>
-    ensures { OnOk result ((files : fin.FinMap by_bytes (List ℕ)) → entries_in_bytes found.old.entries ≡ fin.entries files →
-        entries_in_bytes found.new.entries ≡ fin.entries (with_names folder.now (name.now ∷ []) files)) }
+    ensures { OnOk result ((files : fin.FinMap by_bytes (List ℕ))
+        → entries_in_bytes found.old.entries ≡ fin.entries files →
+        entries_in_bytes found.new.entries
+        ≡ fin.entries (with_names folder.now (name.now ∷ []) files)) }
 {
     let path = join(alloc, folder, name)?;
     found.insert(Vec::from_slice(alloc, name)?, path)?;

@@ -1,7 +1,8 @@
 ghost use Rattle.std.specs.Prelude.{◌≡◌, IfOk, option_copied};
 ghost use Rattle.km_names.specs.Path.{underscored};
 ghost use Rattle.km_course.specs.FollowsOn.{FollowsOnFiles, Returns};
-ghost use Rattle.stages_files.specs.KernelModules.{modules_folder, path_listed, path_outcome, reads_modules};
+ghost use Rattle.stages_files.specs.KernelModules.{modules_folder, path_listed, path_outcome};
+ghost use Rattle.stages_files.specs.KernelModules.{reads_modules};
 
 use crate::index_file::read_index;
 use index_read::Index;

@@ -3,7 +3,8 @@ ghost use Rattle.km_names.specs.Limit.{file_limit};
 ghost use Rattle.km_course.specs.Follows.{Answers};
 ghost use Rattle.km_course.specs.FollowsOn.{FollowsOnFilesAs};
 ghost use Rattle.kernel_exports.specs.KernelTable.{exports_of_map, exports_of_symvers};
-ghost use Rattle.stages_files.specs.KernelTable.{reads_kernel, reads_map, reads_symvers, table_of, table_outcome, table_stop};
+ghost use Rattle.stages_files.specs.KernelTable.{reads_kernel, reads_map, reads_symvers, table_of};
+ghost use Rattle.stages_files.specs.KernelTable.{table_outcome, table_stop};
 
 use km_course::{Refusal, Stop, read_needed};
 use km_names::{Blob, PathText};

@@ -33,7 +33,9 @@ reads_indexes folder = do
 abbrev pub reads_rules : List Rule → List ℕ → Stage (List Rule)
 reads_rules stated folder = do
   bytes ← reads_any (path_below folder (codes "modules.softdep"))
-  more ← given (stated_outcome (rules_of (record { path = path_below folder (codes "modules.softdep"); bytes = bytes } ∷ [])))
+  more ← given (stated_outcome
+      (rules_of
+      (record { path = path_below folder (codes "modules.softdep"); bytes = bytes } ∷ [])))
   gives (stated ++ more)
 
 -- The lines of the folder's modules.unmet, which is empty if there is none.

@@ -31,4 +31,5 @@ unless_unknown (Some name) names = end (Refused (NotFound (normal_or_itself name
 -- What the names result in: what they stand for, unless one stands for nothing; then the first such
 -- name is reported.
 unfoldable pub names_outcome : Known → Bool → List (List ℕ) → Outcome (List (List ℕ))
-names_outcome known everywhere names = unless_unknown (find (is_unknown known everywhere) names) (found_names known everywhere names)
+names_outcome known everywhere names =
+    unless_unknown (find (is_unknown known everywhere) names) (found_names known everywhere names)

@@ -5,7 +5,8 @@ ghost use Rattle.km_course.specs.FollowsOn.{FollowsOnFiles, Returns};
 ghost use Rattle.modprobe_conf.specs.Rules.{rules_of};
 ghost use Rattle.unmet_file.specs.Unmet.{unmet_of};
 ghost use Rattle.stages_files.specs.Configuration.{stated_outcome};
-ghost use Rattle.stages_known.specs.Known.{reads_index_in, reads_indexes, reads_rules, reads_unmet, reads_loaded, reads_lists, reads_known};
+ghost use Rattle.stages_known.specs.Known.{reads_index_in, reads_indexes, reads_rules, reads_unmet};
+ghost use Rattle.stages_known.specs.Known.{reads_loaded, reads_lists, reads_known};
 
 use index_read::Index;
 use km_course::{Stop, read_needed, read_optional};

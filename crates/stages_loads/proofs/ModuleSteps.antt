@@ -30,27 +30,44 @@ IsSound-prop o f = Prim.hlevel props
 with_parts : (o : FileObject) (f : Facts) → IsModule o f → IsSound o f → Module
 with_parts o f valid sound = record { object = o; facts = f; valid = valid; sound = sound }
 
-by_parts : (o p : FileObject) → o ≡ p → (f g : Facts) → f ≡ g → (v : IsModule o f) (w : IsModule p g) (s : IsSound o f) (t : IsSound p g) → with_parts o f v s ≡ with_parts p g w t
+by_parts : (o p : FileObject) → o ≡ p → (f g : Facts) → f ≡ g
+    → (v : IsModule o f) (w : IsModule p g) (s : IsSound o f) (t : IsSound p g)
+    → with_parts o f v s ≡ with_parts p g w t
 by_parts o p object =
-    subst (λ q. (f g : Facts) → f ≡ g → (v : IsModule o f) (w : IsModule q g) (s : IsSound o f) (t : IsSound q g) → with_parts o f v s ≡ with_parts q g w t) object
-    (λ f g facts. subst (λ h. (v : IsModule o f) (w : IsModule o h) (s : IsSound o f) (t : IsSound o h) → with_parts o f v s ≡ with_parts o h w t) facts
-    (λ v w s t. ap (λ x. with_parts o f x s) (IsModule-prop o f v w) ∙ ap (λ y. with_parts o f w y) (IsSound-prop o f s t)))
+    subst (λ q. (f g : Facts) → f ≡ g
+    → (v : IsModule o f) (w : IsModule q g) (s : IsSound o f) (t : IsSound q g)
+    → with_parts o f v s ≡ with_parts q g w t) object
+    (λ f g facts. subst
+    (λ h. (v : IsModule o f) (w : IsModule o h) (s : IsSound o f) (t : IsSound o h)
+    → with_parts o f v s ≡ with_parts o h w t) facts
+    (λ v w s t. ap (λ x. with_parts o f x s) (IsModule-prop o f v w)
+    ∙ ap (λ y. with_parts o f w y) (IsSound-prop o f s t)))
 
 -- the module of a file, by its object and its facts
-pub module_at-same : (path bytes : List ℕ) (m : Module) (passed : fact_fault path bytes ≡ None) → m.object ≡ file_object bytes → m.facts ≡ facts_of path bytes → module_at path bytes passed ≡ m
+pub module_at-same : (path bytes : List ℕ) (m : Module) (passed : fact_fault path bytes ≡ None)
+    → m.object ≡ file_object bytes → m.facts ≡ facts_of path bytes → module_at path bytes passed ≡ m
 unfolding module_at with_parts
-module_at-same path bytes m passed object facts = by_parts _ m.object (sym object) _ m.facts (sym facts) _ m.valid _ m.sound
+module_at-same path bytes m passed object facts =
+    by_parts _ m.object (sym object) _ m.facts (sym facts) _ m.valid _ m.sound
 
-pub checked_ok : (file path bytes : List ℕ) (m : Module) (o : Option ModuleFault) (is : fact_fault path bytes ≡ o) → m.object ≡ file_object bytes → m.facts ≡ facts_of path bytes → o ≡ None → module_outcome file path bytes o is ≡ value m
+pub checked_ok : (file path bytes : List ℕ) (m : Module) (o : Option ModuleFault)
+    (is : fact_fault path bytes ≡ o)
+    → m.object ≡ file_object bytes → m.facts ≡ facts_of path bytes → o ≡ None
+    → module_outcome file path bytes o is ≡ value m
 unfolding module_outcome
-checked_ok file path bytes m None is object facts passed = ap value (module_at-same path bytes m is object facts)
+checked_ok file path bytes m None is object facts passed =
+    ap value (module_at-same path bytes m is object facts)
 checked_ok file path bytes m (Some fault) is object facts passed = cc
 
 -- a fault that isn't out of memory is the first test that fails
-pub checked_not : (file path bytes text : List ℕ) (o : Option ModuleFault) (is : fact_fault path bytes ≡ o) (fault : ModuleFault) → (fault ≡ Memory) ⊎ (o ≡ Some fault) → (fault ≡ Memory → ⊥) → text ≡ module_fault_text fault → module_outcome file path bytes o is ≡ end (Refused (BadModule file text))
+pub checked_not : (file path bytes text : List ℕ) (o : Option ModuleFault)
+    (is : fact_fault path bytes ≡ o) (fault : ModuleFault)
+    → (fault ≡ Memory) ⊎ (o ≡ Some fault) → (fault ≡ Memory → ⊥) → text ≡ module_fault_text fault
+    → module_outcome file path bytes o is ≡ end (Refused (BadModule file text))
 unfolding module_outcome
 checked_not file path bytes text o is fault (inl m) wanting same = absurd (wanting m)
 checked_not file path bytes text None is fault (inr f) wanting same = cc
 checked_not file path bytes text (Some found) is fault (inr f) wanting same =
     let one : found ≡ fault = cc in
-    ap (λ x. end (Refused (BadModule file (module_fault_text x)))) one ∙ ap (λ t. end (Refused (BadModule file t))) (sym same)
+    ap (λ x. end (Refused (BadModule file (module_fault_text x)))) one
+    ∙ ap (λ t. end (Refused (BadModule file t))) (sym same)

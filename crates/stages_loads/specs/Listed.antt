@@ -27,8 +27,10 @@ loads_listed_at folder machine name found = do
 
 -- The listed module of a name is looked up, read, and goes into the machine.
 abbrev pub loads_listed_one : List ℕ → Index → Machine → List ℕ → Stage Machine
-loads_listed_one folder index machine name = loads_listed_at folder machine name (path_listed index name)
+loads_listed_one folder index machine name =
+    loads_listed_at folder machine name (path_listed index name)
 
 -- The listed modules, the oldest first; the list has the newest first.
 abbrev pub loads_listed : List ℕ → Index → Machine → List (List ℕ) → Stage Machine
-loads_listed folder index machine names = each_from (loads_listed_one folder index) machine (reverse names)
+loads_listed folder index machine names =
+    each_from (loads_listed_one folder index) machine (reverse names)

@@ -1,5 +1,6 @@
 -- Loads into a machine, each with the lines that are printed of it. modprobe(8).
-use Rattle.std.specs.Prelude.{◌≡◌, ℕ, ◌<◌, ◌-◌, List, [], ◌∷◌, length, map, slice_get, ◌++◌, codes, Option, Some, None, Result, Ok, Err, ⊤}
+use Rattle.std.specs.Prelude.{◌≡◌, ℕ, ◌<◌, ◌-◌, List, [], ◌∷◌, length, map, slice_get, ◌++◌, codes}
+use Rattle.std.specs.Prelude.{Option, Some, None, Result, Ok, Err, ⊤}
 use Rattle.std.specs.Fmt.{decimal}
 use Rattle.std.specs.Int.{w64, to_be_bytes}
 use Rattle.hex.specs.Hex.{encode_lower}
@@ -16,11 +17,13 @@ use Rattle.param_apply.specs.declared.apply.Params.{Params}
 use Rattle.param_apply.specs.declared.fault.ParamFault.{ParamFault}
 use Rattle.param_apply.specs.Applied.{count_of, finished, param_fault}
 use Rattle.param_apply.specs.FaultText.{param_fault_text}
-use Rattle.km_course.specs.Course.{Outcome, Stage, ◌>>=◌, given, gives, each_from, puts, says, when◌then◌else◌}
+use Rattle.km_course.specs.Course.{Outcome, Stage, ◌>>=◌, given, gives, each_from, puts, says}
+use Rattle.km_course.specs.Course.{when◌then◌else◌}
 use Rattle.km_course.specs.Course.Outcome.{value, end}
 use Rattle.km_course.specs.declared.end.End.TheVariants.{Refused}
 use Rattle.km_course.specs.declared.refusal.Refusal.{Refusal}
-use Rattle.km_course.specs.declared.refusal.Refusal.TheVariants.{ListedRefused, LoadRefused, ParamsRefused}
+use Rattle.km_course.specs.declared.refusal.Refusal.TheVariants.{ListedRefused, LoadRefused}
+use Rattle.km_course.specs.declared.refusal.Refusal.TheVariants.{ParamsRefused}
 use Rattle.stages_loads.specs.declared.load.Cause.{Cause}
 use Rattle.stages_loads.specs.declared.load.Cause.TheVariants.{Listed, Planned}
 use Rattle.stages_loads.specs.declared.load.Insertion.{Insertion}
@@ -35,7 +38,8 @@ load_refusal Planned name text = LoadRefused name text
 -- What a step with this result results in: the machine with the module, or the refusal of the load.
 unfoldable pub load_outcome : Cause → List ℕ → Result Machine LoadFault → Outcome Machine
 load_outcome cause name (Ok after) = value after
-load_outcome cause name (Err fault) = end (Refused (load_refusal cause name (load_fault_text fault)))
+load_outcome cause name (Err fault) =
+    end (Refused (load_refusal cause name (load_fault_text fault)))
 
 -- The module goes into the machine.
 abbrev pub loads : Cause → Machine → Module → Stage Machine
@@ -51,7 +55,8 @@ entered machine m = entry_at machine m (module_base machine m)
 unfoldable pub entry_line : List ℕ → LoadedModule → List ℕ → List ℕ
 entry_line word loaded image =
     word ++ (codes " " ++ (loaded.name ++ (codes " " ++ (encode_lower (to_be_bytes w64 loaded.base)
-    ++ (codes " " ++ (decimal loaded.size ++ (codes " " ++ (encode_lower (sha256 image) ++ 10 ∷ []))))))))
+    ++ (codes " "
+    ++ (decimal loaded.size ++ (codes " " ++ (encode_lower (sha256 image) ++ 10 ∷ []))))))))
 
 -- The line of a module that was loaded.
 abbrev pub loaded_line : LoadedModule → List ℕ → List ℕ
@@ -61,7 +66,11 @@ loaded_line loaded image = entry_line (codes "loaded") loaded image
 -- name, and the digest of the finished image.
 unfoldable pub params_line : List ℕ → ℕ → List ℕ → List ℕ
 params_line name count image =
-    codes "params " ++ (name ++ (codes " " ++ (decimal count ++ (codes " " ++ (encode_lower (sha256 image) ++ 10 ∷ [])))))
+    codes "params "
+    ++ (name
+    ++ (codes " "
+    ++ (decimal count
+    ++ (codes " " ++ (encode_lower (sha256 image) ++ 10 ∷ [])))))
 
 -- An image that is shown: it is put into the folder for images, if there is one, under a name with
 -- `.img` after it; and then a line is printed.
@@ -72,11 +81,14 @@ pub record ShownImage : Type 0 where
 
 -- The image of a module in the machine, under the name of the module.
 abbrev pub machine_image : LoadedModule → List ℕ → ShownImage
-machine_image loaded image = record { name = loaded.name; image = image; line = loaded_line loaded image }
+machine_image loaded image =
+    record { name = loaded.name; image = image; line = loaded_line loaded image }
 
 -- The image with the parameters in it, under the name of the module and `.params`.
 abbrev pub params_image : List ℕ → Params → ShownImage
-params_image name p = record { name = name ++ codes ".params"; image = p.image; line = params_line name p.count p.image }
+params_image name p =
+    record
+    { name = name ++ codes ".params"; image = p.image; line = params_line name p.count p.image }
 
 -- The image of a module, as it is in the machine, with the options written into a copy of it.
 abbrev pub finished_params : Module → List ℕ → LoadedModule → List ℕ → Params
@@ -94,7 +106,8 @@ params_unless name (Some fault) p = end (Refused (ParamsRefused name (param_faul
 -- fault is reported.
 unfoldable pub params_outcome : Module → List ℕ → LoadedModule → List ℕ → Outcome Params
 params_outcome m options loaded image =
-    params_unless loaded.name (param_fault m.object loaded.base image options) (finished_params m options loaded image)
+    params_unless loaded.name (param_fault m.object loaded.base image options)
+    (finished_params m options loaded image)
 
 -- An image is put into the folder for images, if there is one, under a name.
 abbrev pub puts_image : Option (List ℕ) → List ℕ → List ℕ → Stage ⊤

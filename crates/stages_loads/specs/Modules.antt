@@ -18,15 +18,18 @@ use Rattle.km_course.specs.declared.end.End.TheVariants.{Refused}
 use Rattle.km_course.specs.declared.refusal.Refusal.TheVariants.{BadModule, Compressed}
 
 -- if no test fails, none does after the first
-pub passed-on : {X : Type 0} (test : Option X) (tests : List (Option X)) → first (test ∷ tests) ≡ None → first tests ≡ None
+pub passed-on : {X : Type 0} (test : Option X) (tests : List (Option X))
+    → first (test ∷ tests) ≡ None → first tests ≡ None
 passed-on None tests passed = passed
 passed-on (Some fault) tests passed = cc
 
 -- if all tests of a module pass, the tests of its facts do
-pub facts-pass : (path bytes : List ℕ) → fact_fault path bytes ≡ None → first (facts_tests (file_object bytes) (facts_of path bytes)) ≡ None
+pub facts-pass : (path bytes : List ℕ) → fact_fault path bytes ≡ None
+    → first (facts_tests (file_object bytes) (facts_of path bytes)) ≡ None
 unfolding fact_fault module_tests
 facts-pass path bytes passed =
-    passed-on _ (facts_tests (file_object bytes) (facts_of path bytes)) (passed-on _ (_ ∷ facts_tests (file_object bytes) (facts_of path bytes)) passed)
+    passed-on _ (facts_tests (file_object bytes) (facts_of path bytes))
+    (passed-on _ (_ ∷ facts_tests (file_object bytes) (facts_of path bytes)) passed)
 
 -- The module at a path whose file has these bytes, if nothing is wrong with it.
 unfoldable pub module_at : (path bytes : List ℕ) → fact_fault path bytes ≡ None → Module
@@ -34,14 +37,18 @@ module_at path bytes passed = record {
   object = file_object bytes;
   facts = facts_of path bytes;
   valid = IsModule-read path bytes (file_object bytes) (facts_of path bytes) refl refl passed;
-  sound = IsSound-passed path (file_object bytes) (facts_of path bytes) refl (facts-pass path bytes passed);
+  sound
+      = IsSound-passed path (file_object bytes) (facts_of path bytes) refl
+      (facts-pass path bytes passed);
 }
 
 -- What the file of a module results in, by its first failing test: the module at a path, or the
 -- refusal of the file by its whole path.
-unfoldable pub module_outcome : List ℕ → (path bytes : List ℕ) (fault : Option ModuleFault) → fact_fault path bytes ≡ fault → Outcome Module
+unfoldable pub module_outcome : List ℕ → (path bytes : List ℕ) (fault : Option ModuleFault)
+    → fact_fault path bytes ≡ fault → Outcome Module
 module_outcome file path bytes None passed = value (module_at path bytes passed)
-module_outcome file path bytes (Some fault) first = end (Refused (BadModule file (module_fault_text fault)))
+module_outcome file path bytes (Some fault) first =
+    end (Refused (BadModule file (module_fault_text fault)))
 
 -- What the file of these bytes results in.
 abbrev pub file_outcome : List ℕ → List ℕ → List ℕ → Outcome Module

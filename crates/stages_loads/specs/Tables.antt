@@ -1,6 +1,7 @@
 -- The machine that a kernel's tables make: its exports at their addresses, and no module. nm(1);
 -- the kernel's Documentation/kbuild/modules.rst, "Module.symvers".
-use Rattle.std.specs.Prelude.{◌≡◌, ℕ, true, not, Bool, List, [], ◌∷◌, AllPairs, filter, find, Option, is_none, Some, None, Result, Ok, Err}
+use Rattle.std.specs.Prelude.{◌≡◌, ℕ, true, not, Bool, List, [], ◌∷◌, AllPairs, filter, find}
+use Rattle.std.specs.Prelude.{Option, is_none, Some, None, Result, Ok, Err}
 use Rattle.std.specs.List.{filter_map}
 use Rattle.std.specs.Str.{bytes_eq}
 use Rattle.std.proofs.Common.{get_or, ap, sym, ◌∙◌, arith}
@@ -9,7 +10,8 @@ use Rattle.std.proofs.lemmas.List.Elements.{filter_passes}
 use Rattle.std.proofs.lemmas.List.Kept.{AllPairs-cons, AllPairs-filter}
 use Rattle.kernel_exports.specs.declared.kernel.Kernel.{Kernel}
 use Rattle.kernel_exports.specs.declared.kernel.KernelExport.{KernelExport}
-use Rattle.kernel_exports.specs.KernelTable.{first_of_each, export_of_symbol, exports_of_map, exports_with_addresses, with_addresses}
+use Rattle.kernel_exports.specs.KernelTable.{first_of_each, export_of_symbol, exports_of_map}
+use Rattle.kernel_exports.specs.KernelTable.{exports_with_addresses, with_addresses}
 use Rattle.kernel_exports.specs.MapLines.{MapSymbol}
 use Rattle.kernel_exports.proofs.NameSteps.{bytes-refl}
 use Rattle.module_region.specs.declared.region.Region.{Region}
@@ -26,14 +28,17 @@ other-name e o passed same =
     false≢true (ap not (sym (ap (λ n. bytes_eq n e.name) (sym same) ∙ bytes-refl e.name)) ∙ passed)
 
 -- of the exports of one name only the first is left
-pub firsts-apart : (es : List KernelExport) → AllPairs (λ (a b : KernelExport). a.name ≡ b.name → ⊥) (first_of_each es)
+pub firsts-apart : (es : List KernelExport)
+    → AllPairs (λ (a b : KernelExport). a.name ≡ b.name → ⊥) (first_of_each es)
 firsts-apart [] = λ i j d before within. absurd (omega arith)
 firsts-apart (e ∷ es) =
     let passes : KernelExport → Bool = λ other. not (bytes_eq other.name e.name) in
     let left = filter passes (first_of_each es) in
     AllPairs-cons (λ (a b : KernelExport). a.name ≡ b.name → ⊥) e left
-    (λ k d within. other-name e (get_or left k d) (filter_passes passes (first_of_each es) k d within))
-    (AllPairs-filter (λ (a b : KernelExport). a.name ≡ b.name → ⊥) passes (first_of_each es) (firsts-apart es))
+    (λ k d within. other-name e (get_or left k d)
+    (filter_passes passes (first_of_each es) k d within))
+    (AllPairs-filter (λ (a b : KernelExport). a.name ≡ b.name → ⊥) passes (first_of_each es)
+    (firsts-apart es))
 
 -- The kernel of a table. A kernel exports each name once: of the exports of one name the first
 -- counts.

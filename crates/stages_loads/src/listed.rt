@@ -1,7 +1,8 @@
 // The modules that are listed as loaded.
 ghost use Rattle.std.specs.Prelude.{option_copied};
 ghost use Rattle.km_course.specs.FollowsOn.{FollowsOnFiles, Returns};
-ghost use Rattle.stages_loads.specs.Listed.{listed_outcome, loads_listed, loads_listed_at, loads_listed_one};
+ghost use Rattle.stages_loads.specs.Listed.{listed_outcome, loads_listed, loads_listed_at};
+ghost use Rattle.stages_loads.specs.Listed.{loads_listed_one};
 ghost use Rattle.stages_loads.specs.Read.{loads_listed_file};
 
 use crate::load::{Cause, load};

@@ -103,7 +103,8 @@ pub(crate) fn load(
     mut machine: Machine,
     module: &Module,
 ) -> Result<Machine, Stop>
-    ensures { Returns (load_outcome cause «module».now.facts.name (step machine «module».now)) result }
+    ensures { Returns (load_outcome cause «module».now.facts.name (step machine «module».now))
+        result }
 {
     match machine.load(module) {
         Ok(_) => Ok(machine),
@@ -143,7 +144,8 @@ fn refused(
     name: &Name,
     fault: &LoadFault,
 ) -> Result<Refusal, AllocError>
-    ensures { IfOk result (λ refusal. refusal ≡ load_refusal cause name.now (load_fault_text fault.now)) }
+    ensures { IfOk result
+        (λ refusal. refusal ≡ load_refusal cause name.now (load_fault_text fault.now)) }
 {
     let text = fault.text(alloc)?;
     let name = Name::from_slice(alloc, name.as_bytes())?;

@@ -7,7 +7,8 @@ ghost use Rattle.kernel_exports.specs.KernelTable.{exports_of_map};
 ghost use Rattle.kernel_exports.specs.MapLines.{map_line};
 ghost use Rattle.kernel_exports.specs.TableLines.{refused_line, stated};
 ghost use Rattle.stages_files.specs.KernelTable.{table_of, table_outcome};
-ghost use Rattle.stages_loads.specs.Tables.{machine_outcome, reads_addressed, reads_machine, table_of_map, unplaced};
+ghost use Rattle.stages_loads.specs.Tables.{machine_outcome, reads_addressed, reads_machine};
+ghost use Rattle.stages_loads.specs.Tables.{table_of_map, unplaced};
 
 use km_course::{Refusal, Stop, read_needed};
 use km_names::{Blob, PathText};

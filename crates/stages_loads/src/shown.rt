@@ -4,7 +4,8 @@ ghost use Rattle.km_names.specs.Path.{path_below};
 ghost use Rattle.km_course.specs.FollowsOn.{FollowsOnFiles, FollowsOnFilesAndOut, Returns};
 ghost use Rattle.image_layout.specs.Offsets.{image_size};
 ghost use Rattle.model_loader.specs.declared.entry.Entry.{Entry};
-ghost use Rattle.stages_loads.specs.Loads.{IsNewest, entry_line, params_line, params_outcome, puts_image, shows_image, shows_load, shows_params};
+ghost use Rattle.stages_loads.specs.Loads.{IsNewest, entry_line, params_line, params_outcome};
+ghost use Rattle.stages_loads.specs.Loads.{puts_image, shows_image, shows_load, shows_params};
 
 use km_course::{Refusal, Stop, put, say};
 use km_names::{Blob, Name, PathText, join};
@@ -35,7 +36,8 @@ pub(crate) fn show_load<F: Writes, O: Out>(
     files: &mut F,
     out: &mut O,
 ) -> Result<(), Stop>
-    requires { (e : Entry) × IsNewest machine.now e × (length e.image ≡ image_size «module».now.object.sections) }
+    requires { (e : Entry) × IsNewest machine.now e
+        × (length e.image ≡ image_size «module».now.object.sections) }
     ensures { (e : Entry) → IsNewest machine.now e →
         FollowsOnFilesAndOut (shows_load images.now «module».now options.now e)
         F.seen files.old files.new O.seen out.old out.new result }

@@ -1,7 +1,8 @@
 -- Who provides a name, among a kernel and the modules of a tree, and which modules a module uses.
 -- Two rules are this project's choice, since depmod(8) leaves them open. The first exporting module
 -- in the order of the tree provides a name. A weak need with a module as provider is a dependency.
-use Rattle.std.specs.Prelude.{ℕ, false, List, [], ◌∷◌, map, find, filter_map, Option, Some, None, option_map, option_and_then, if◌then◌else◌}
+use Rattle.std.specs.Prelude.{ℕ, false, List, [], ◌∷◌, map, find, filter_map, Option, Some, None}
+use Rattle.std.specs.Prelude.{option_map, option_and_then, if◌then◌else◌}
 use Rattle.std.specs.Str.{bytes_eq}
 use Rattle.km_names.specs.First.{first}
 use Rattle.symbol_binding.specs.Symbols.{Export, Face, Module, Kernel}
@@ -22,7 +23,8 @@ export_under found = option_map (λ p. p.export) found
 
 -- What this owner provides for a name, from its exports.
 abbrev pub provided_by : {M : Type 0} → Owner M → List Export → List ℕ → Option (Provided M)
-provided_by owner exports x = option_map (λ e. record { owner = owner; export = e }) (find (λ e. bytes_eq e.name x) exports)
+provided_by owner exports x =
+    option_map (λ e. record { owner = owner; export = e }) (find (λ e. bytes_eq e.name x) exports)
 
 -- What the kernel provides for a name.
 abbrev pub of_kernel : {M : Type 0} → Kernel → List ℕ → Option (Provided M)
@@ -48,12 +50,14 @@ module_exports m = m.face.exports
 abbrev pub of_unknown : Kernel → List ℕ → Option (Provided Module)
 of_unknown kernel x =
     if kernel.known then None
-    else Some (record { owner = ByKernel; export = record { name = x; crc = None; gpl = false; space = [] } })
+    else Some (record
+    { owner = ByKernel; export = record { name = x; crc = None; gpl = false; space = [] } })
 
 -- The provider of a name: the kernel if it exports the name, else the first exporting module of the
 -- tree, else the kernel if it isn't known, else nobody.
 abbrev pub provider : List Module → Kernel → List ℕ → Option (Provided Module)
-provider tree kernel x = first (of_kernel kernel x ∷ of_first module_exports tree x ∷ of_unknown kernel x ∷ [])
+provider tree kernel x =
+    first (of_kernel kernel x ∷ of_first module_exports tree x ∷ of_unknown kernel x ∷ [])
 
 -- The module that owns what is provided, if one does.
 abbrev pub owning_module : {M : Type 0} → Owner M → Option M
@@ -63,4 +67,5 @@ owning_module (ByModule m) = Some m
 -- The modules that a module uses: the ones that provide one of its needs, weak or strong.
 abbrev pub uses : List Module → Kernel → Module → List Module
 uses tree kernel m =
-    filter_map (λ n. option_and_then (λ p. owning_module p.owner) (provider tree kernel n.name)) m.face.needs
+    filter_map (λ n. option_and_then (λ p. owning_module p.owner) (provider tree kernel n.name))
+    m.face.needs

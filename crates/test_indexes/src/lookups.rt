@@ -105,8 +105,8 @@ fn put_often(rt: &impl Abort, text: &mut Blob, piece: &str, count: usize) {
     }
 }
 
-/// Returns "[ab]c" 120 times after a "*", 119 times after a "?" and 118 times after an "x", with "v"
-/// at 0. Their prefixes end with one NUL, and together have more bytes than the file.
+/// Returns "[ab]c" 120 times after a "*", 119 times after a "?" and 118 times after an "x", with
+/// "v" at 0. Their prefixes end with one NUL, and together have more bytes than the file.
 fn long_shared_end(rt: &impl Abort, alloc: Global) -> Index {
     let mut file = bytes(rt, alloc, "b007f457 00020001 2000026f");
     put_often(rt, &mut file, "[ab]c", 120);

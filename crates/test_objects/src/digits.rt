@@ -17,7 +17,8 @@ fn packed(alloc: Global, digits: &[u8]) -> Result<Vec<u8>, AllocError>
 /// Returns the bytes of hexadecimal digits, two for each byte. Spaces separate the fields, and
 /// don't count.
 pub fn bytes_of(alloc: Global, digits: &str) -> Result<Blob, FromHexError>
-    ensures made { IfOk result (λ bytes. decode_of (filter (λ b. not (b == 32)) digits.now) ≡ Ok bytes) }
+    ensures made { IfOk result
+        (λ bytes. decode_of (filter (λ b. not (b == 32)) digits.now) ≡ Ok bytes) }
     ensures refused { IfErr result (λ fault.
         (fault ≡ OutOfMemory) ⊎ (decode_of (filter (λ b. not (b == 32)) digits.now) ≡ Err fault)) }
 {

@@ -1,6 +1,7 @@
 // The lists of a sheet that is written out.
 ghost use Rattle.std.specs.Prelude.{◌≡◌, map, IfOk};
-ghost use Rattle.test_objects.specs.Rows.{version_of, export_of, need_of, place_of, space_of, slices_of};
+ghost use Rattle.test_objects.specs.Rows.{version_of, export_of, need_of, place_of, space_of};
+ghost use Rattle.test_objects.specs.Rows.{slices_of};
 
 use crate::row::{ExportRow, NeedRow, PlaceRow, SpaceRow, VersionRow};
 use km_names::{Bytes, List, Name};

@@ -40,15 +40,18 @@ pub fn more(alloc: Global, row: &MoreRow) -> Result<SheetMore, AllocError>
 /// Returns the object of a sheet that is written out.
 pub fn object_of(alloc: Global, row: &SheetRow) -> Result<Blob, RowFault>
     ensures made { IfOk result (λ bytes. bytes ≡ object_more_of (sheet_of row.now) no_more) }
-    ensures refused { IfErr result (λ fault. (fault ≡ Memory) ⊎ (is_sheet (sheet_of row.now) no_more ≡ false)) }
+    ensures refused { IfErr result
+        (λ fault. (fault ≡ Memory) ⊎ (is_sheet (sheet_of row.now) no_more ≡ false)) }
 {
     object_with(alloc, row, &NO_MORE)
 }
 
 /// Returns the object of a sheet with more, both written out.
 pub fn object_with(alloc: Global, row: &SheetRow, besides: &MoreRow) -> Result<Blob, RowFault>
-    ensures made { IfOk result (λ bytes. bytes ≡ object_more_of (sheet_of row.now) (more_of besides.now)) }
-    ensures refused { IfErr result (λ fault. (fault ≡ Memory) ⊎ (is_sheet (sheet_of row.now) (more_of besides.now) ≡ false)) }
+    ensures made { IfOk result
+        (λ bytes. bytes ≡ object_more_of (sheet_of row.now) (more_of besides.now)) }
+    ensures refused { IfErr result
+        (λ fault. (fault ≡ Memory) ⊎ (is_sheet (sheet_of row.now) (more_of besides.now) ≡ false)) }
 {
     let sheet = sheet(alloc, row)?;
     let more = more(alloc, besides)?;

@@ -4,10 +4,10 @@ use Answer::{Refused, Written};
 
 /// Two parameters, of 4 bytes and of one.
 ///
-/// Their object has from its byte 216 on the four relocations of `__param`, of 24 bytes each: of the
-/// name and of the value of `depth`, and of those of `raw`. The last 8 bytes of a relocation are its
-/// addend, a place in `.data`. That section begins at 4096 in an image of 8192 bytes, and `__param`
-/// at 0.
+/// Their object has from its byte 216 on the four relocations of `__param`, of 24 bytes each: of
+/// the name and of the value of `depth`, and of those of `raw`. The last 8 bytes of a relocation
+/// are its addend, a place in `.data`. That section begins at 4096 in an image of 8192 bytes, and
+/// `__param` at 0.
 const TWO: [Row; 2] = [(b"depth", b"int"), (b"raw", b"bool")];
 
 /// Changes of the object, with options and what they result in.

@@ -1,5 +1,6 @@
 // Trees of two thousand modules, up to the limit of dependencies and past it, and a cycle.
-ghost use Rattle.std.specs.Prelude.{◌≡◌, ◌+◌, ◌/◌, ◌%◌, ◌<◌, ◌≤◌, [], ◌∷◌, length, All, AllPairs, IsTrue, IfOk};
+ghost use Rattle.std.specs.Prelude.{◌≡◌, ◌+◌, ◌/◌, ◌%◌, ◌<◌, ◌≤◌, [], ◌∷◌, length, All, AllPairs};
+ghost use Rattle.std.specs.Prelude.{IsTrue, IfOk};
 ghost use Rattle.km_names.specs.Ascii.{is_graphic};
 ghost use Rattle.provider_rel.specs.Seen.{closures_by};
 ghost use Rattle.provider_rel.specs.Tree.{IsTree, IsTreeModule};
@@ -74,7 +75,8 @@ fn needs(alloc: Global, start: u16, end: u16) -> Result<Needs, AllocError>
 fn exports(alloc: Global, number: u16) -> Result<Exports, AllocError>
     requires { number < 2500 }
     ensures distinct { IfOk result (λ exports. AllPairs (λ a b. a.name ≡ b.name → ⊥) exports) }
-    ensures graphic { IfOk result (λ exports. All (λ export. IsTrue (is_graphic export.name)) exports) }
+    ensures graphic { IfOk result
+        (λ exports. All (λ export. IsTrue (is_graphic export.name)) exports) }
 {
     let mut exports = Exports::new(alloc);
     exports.push(Export {
@@ -92,7 +94,8 @@ fn facts(alloc: Global, shape: Shape, number: u16, count: u16) -> Result<Facts, 
     requires there { number < count }
     requires few { count ≤ 2500 }
     ensures good { IfOk result IsTreeModule }
-    ensures named { IfOk result (λ facts. facts.name ≡ (65 + number / 50) ∷ (65 + number % 50) ∷ []) }
+    ensures named { IfOk result
+        (λ facts. facts.name ≡ (65 + number / 50) ∷ (65 + number % 50) ∷ []) }
 {
     let (start, end) = needed(shape, number, count);
     let name = name(alloc, number)?;

@@ -14,12 +14,17 @@ pub alone : {A : Type 0} (P : A → Type 0) (xs : List A) (x : A) → xs ≡ x �
 alone P xs x is one = subst (All P) (sym is) (All-cons P x [] one (All-nil P))
 
 -- two modules of different names
-pub two-modules : (tree : List Facts) (a b : Facts) → IsTreeModule a → IsTreeModule b → (a.name ≡ b.name → ⊥) → tree ≡ a ∷ b ∷ [] → IsTree tree
+pub two-modules : (tree : List Facts) (a b : Facts) → IsTreeModule a → IsTreeModule b
+    → (a.name ≡ b.name → ⊥) → tree ≡ a ∷ b ∷ [] → IsTree tree
 two-modules tree a b good_a good_b apart is =
     let differ = λ (x y : Facts). x.name ≡ y.name → ⊥ in
     let unlike = λ (x : Facts). x.name ≡ b.name → ⊥ in
     subst IsTree (sym is) (record {
       few = omega arith;
-      distinct = all_pairs_push differ (a ∷ []) b (one-pair differ a) (All-cons unlike a [] apart (All-nil unlike));
-      modules = All-cons IsTreeModule a (b ∷ []) good_a (All-cons IsTreeModule b [] good_b (All-nil IsTreeModule));
+      distinct
+          = all_pairs_push differ (a ∷ []) b (one-pair differ a)
+          (All-cons unlike a [] apart (All-nil unlike));
+      modules
+          = All-cons IsTreeModule a (b ∷ []) good_a
+          (All-cons IsTreeModule b [] good_b (All-nil IsTreeModule));
     })

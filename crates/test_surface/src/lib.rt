@@ -3,9 +3,9 @@
 //!
 //! A module of it has the calls of one layer: names and words, files and outputs, objects and
 //! facts, indexes, the relation of a tree, built-in modules, device nodes, plans, the machine and
-//! its users, removals, parameters, the words of the commands, and the tree of a trial. It builds on
-//! the crates whose calls these are, and on `test_objects` for small modules that are written out.
-//! The commands themselves are called in `test_commands`.
+//! its users, removals, parameters, the words of the commands, and the tree of a trial. It builds
+//! on the crates whose calls these are, and on `test_objects` for small modules that are written
+//! out. The commands themselves are called in `test_commands`.
 //!
 //! A call with a long contract is made by a function that promises nothing, so that the contract
 //! isn't carried through the test.

@@ -8,8 +8,8 @@ use km_outside::{FileAnswer, FileBuffer, Files, Out, OutFailed, Reads, ReplaceAn
 use std::alloc::Global;
 use std::process::Abort;
 
-/// Files of which one can be read. No folder can be listed. Contracts see neither their contents nor
-/// how many calls were made, and no call fails.
+/// Files of which one can be read. No folder can be listed. Contracts see neither their contents
+/// nor how many calls were made, and no call fails.
 #[derive(Drop)]
 struct OneFile {
     path: &'static [u8],

@@ -23,7 +23,8 @@ fn removal(
     plan_removal(alloc, &asked, ignore_remove, rules, machine)
 }
 
-/// Modules that are to be removed, whether their commands are ignored, and the steps. `a` is in use.
+/// Modules that are to be removed, whether their commands are ignored, and the steps. `a` is in
+/// use.
 static REMOVALS: [(&[u8], bool, &str); 3] = [
     (
         b"b",

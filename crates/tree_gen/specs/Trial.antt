@@ -1,6 +1,7 @@
 -- The generated tree of a trial: files in memory, drawn from a seed. The tree is this project's
 -- own.
-use Rattle.std.specs.Prelude.{ℕ, ◌+◌, ◌-◌, ◌*◌, ◌/◌, ◌%◌, ◌^◌, ◌==◌, if◌then◌else◌, zero, suc, false, pos, List, [], ◌∷◌, ◌++◌, map, fold, codes, Some}
+use Rattle.std.specs.Prelude.{ℕ, ◌+◌, ◌-◌, ◌*◌, ◌/◌, ◌%◌, ◌^◌, ◌==◌, if◌then◌else◌, zero, suc}
+use Rattle.std.specs.Prelude.{false, pos, List, [], ◌∷◌, ◌++◌, map, fold, codes, Some}
 use Rattle.std.specs.List.{range_with_len}
 use Rattle.std.specs.FinMap.{empty, insert}
 use Rattle.elf_format.specs.declared.relocation.TheConstants.{R_X86_64_64}
@@ -111,7 +112,9 @@ module_file seed i = object_of (module_sheet i (drawn i (start_of seed i)))
 
 -- The kernel's exports with their versions, one line of a Module.symvers.
 abbrev pub kernel_symvers : List ℕ
-kernel_symvers = codes "0x11111111" ++ 9 ∷ codes "printk" ++ 9 ∷ codes "vmlinux" ++ 9 ∷ codes "EXPORT_SYMBOL" ++ 10 ∷ []
+kernel_symvers =
+    codes "0x11111111" ++ 9 ∷ codes "printk" ++ 9 ∷ codes "vmlinux" ++ 9 ∷ codes "EXPORT_SYMBOL"
+    ++ 10 ∷ []
 
 -- The kernel's addresses, one line of a System.map.
 abbrev pub kernel_map : List ℕ
@@ -119,7 +122,9 @@ kernel_map = codes "ffffffff81000000 T printk" ++ 10 ∷ []
 
 -- The two files of the kernel.
 unfoldable pub kernel_contents : Contents
-kernel_contents = insert (insert empty (codes "/t/Module.symvers") kernel_symvers) (codes "/t/System.map") kernel_map
+kernel_contents =
+    insert (insert empty (codes "/t/Module.symvers") kernel_symvers) (codes "/t/System.map")
+    kernel_map
 
 -- The files with module i's.
 abbrev pub with_module : ℕ → Contents → ℕ → Contents

@@ -43,7 +43,9 @@ impl Draws {
     #[tactic(auto, unfolding(crate::specs::Trial::drawn))]
     pub(crate) fn modules(&mut self, alloc: Global, number: u32) -> Result<Vec<u32>, AllocError>
         ensures modules { IfOk result (λ v. v.items ≡ drawn number self.old.last) }
-        ensures next { IfOk result (λ _. (seed : ℕ) → self.old.last ≡ start_of seed number → self.new.last ≡ start_of seed (number + 1)) }
+        ensures next { IfOk result
+            (λ _. (seed : ℕ) → self.old.last ≡ start_of seed number
+            → self.new.last ≡ start_of seed (number + 1)) }
     {
         let mut modules = Vec::new(alloc);
         if number > 0 {

@@ -1,5 +1,6 @@
 ghost use Rattle.std.specs.Prelude.{◌≡◌, ◌≤◌, ◌<◌, ◌+◌, ℕ, IfOk};
-ghost use Rattle.tree_gen.specs.Trial.{start_of, module_path, module_file, kernel_contents, unused, trial_files};
+ghost use Rattle.tree_gen.specs.Trial.{start_of, module_path, module_file, kernel_contents, unused};
+ghost use Rattle.tree_gen.specs.Trial.{trial_files};
 
 use crate::draws::Draws;
 use crate::trial_sheet::{four_digits, module_sheet};
@@ -41,8 +42,12 @@ fn module_path(alloc: Global, number: u32) -> Result<PathText, AllocError>
 #[tactic(auto, using(crate::proofs::TrialLemmas::is_sheet_made), unfolding(crate::specs::Trial::module_file))]
 fn module_file(alloc: Global, number: u32, draws: &mut Draws) -> Result<Blob, AllocError>
     requires { number < 10000 }
-    ensures file { IfOk result (λ bytes. (seed : ℕ) → draws.old.last ≡ start_of seed number → bytes ≡ module_file seed number) }
-    ensures next { IfOk result (λ _. (seed : ℕ) → draws.old.last ≡ start_of seed number → draws.new.last ≡ start_of seed (number + 1)) }
+    ensures file { IfOk result
+        (λ bytes. (seed : ℕ) → draws.old.last ≡ start_of seed number
+        → bytes ≡ module_file seed number) }
+    ensures next { IfOk result
+        (λ _. (seed : ℕ) → draws.old.last ≡ start_of seed number
+        → draws.new.last ≡ start_of seed (number + 1)) }
 {
     let modules = draws.modules(alloc, number)?;
     let sheet = module_sheet(alloc, number, &modules)?;

@@ -1,6 +1,8 @@
 // The sheets of a trial's modules.
 ghost use Rattle.std.specs.Prelude.{◌≡◌, [], ◌∷◌, map, IfOk};
-ghost use Rattle.tree_gen.specs.Trial.{digit, four_digits, symbol_name, exported, printk, needed as needed_spec, stated, strong, address, texts as texts_spec, module_sheet};
+ghost use Rattle.tree_gen.specs.Trial.{digit, four_digits, symbol_name, exported, printk};
+ghost use Rattle.tree_gen.specs.Trial.{needed as needed_spec, stated, strong, address};
+ghost use Rattle.tree_gen.specs.Trial.{texts as texts_spec, module_sheet};
 
 use elf_format::R_X86_64_64;
 use km_names::{Blob, Name, Texts};

@@ -15,7 +15,9 @@ pub fn draws_stand_before()
 pub fn draws_of_small_seeds()
     ensures zero { drawn_from 0 5 ≡ [] ∷ (0 ∷ []) ∷ (1 ∷ 0 ∷ []) ∷ (2 ∷ []) ∷ (0 ∷ 3 ∷ []) ∷ [] }
     ensures one { drawn_from 1 4 ≡ [] ∷ (0 ∷ []) ∷ (0 ∷ []) ∷ (0 ∷ 2 ∷ []) ∷ [] }
-    ensures seven { drawn_from 7 6 ≡ [] ∷ (0 ∷ []) ∷ (1 ∷ []) ∷ (1 ∷ 2 ∷ []) ∷ (0 ∷ []) ∷ (4 ∷ 1 ∷ []) ∷ [] }
-    ensures greatest { drawn_from (2 ^ 64 - 1) 4 ≡ [] ∷ (0 ∷ []) ∷ (1 ∷ 0 ∷ []) ∷ (0 ∷ 2 ∷ []) ∷ [] }
+    ensures seven { drawn_from 7 6
+        ≡ [] ∷ (0 ∷ []) ∷ (1 ∷ []) ∷ (1 ∷ 2 ∷ []) ∷ (0 ∷ []) ∷ (4 ∷ 1 ∷ []) ∷ [] }
+    ensures greatest { drawn_from (2 ^ 64 - 1) 4
+        ≡ [] ∷ (0 ∷ []) ∷ (1 ∷ 0 ∷ []) ∷ (0 ∷ 2 ∷ []) ∷ [] }
     ensures path { module_path 1234 ≡ codes "/t/lib/modules/trial/kernel/m1234.ko" }
 {}

@@ -19,10 +19,24 @@ stated_if (Some form) words = stated form words
 by_form : (text : List ℕ) → stated_if (form_named (front text)) (rest text) ≡ unmet_line text
 unfolding form_named unmet_line stated_if
 by_form text =
-    go (bytes_eq (front text) (first_word kinds.Missing)) (bytes_eq (front text) (first_word kinds.Gpl)) (bytes_eq (front text) (first_word kinds.Version))
-    (bytes_eq (front text) (first_word kinds.Namespace)) (bytes_eq (front text) (first_word kinds.Double))
+    go (bytes_eq (front text) (first_word kinds.Missing))
+    (bytes_eq (front text) (first_word kinds.Gpl))
+    (bytes_eq (front text) (first_word kinds.Version))
+    (bytes_eq (front text) (first_word kinds.Namespace))
+    (bytes_eq (front text) (first_word kinds.Double))
   where
-    go : (a b c d e : Bool) → stated_if (if a then Some Missing else if b then Some (Provided Gpl) else if c then Some (Provided Version) else if d then Some (Provided Namespace) else if e then Some Double else None) (rest text)
+    go : (a b c d e : Bool)
+        → stated_if (if a
+        then Some Missing
+        else if b
+        then Some (Provided Gpl)
+        else if c
+        then Some (Provided Version)
+        else if d
+        then Some (Provided Namespace)
+        else if e
+        then Some Double
+        else None) (rest text)
         ≡ (if a then option_map (λ w. unbound.Missing w.0 w.1) (two_words (rest text))
         else if b then option_map (λ w. unbound.Gpl w.0 w.1 w.2) (three_words (rest text))
         else if c then option_map (λ w. unbound.Version w.0 w.1 w.2) (three_words (rest text))
@@ -37,12 +51,16 @@ by_form text =
     go false false false false false = refl
 
 -- a line of a form
-pub form-states : (text word words : List ℕ) (form : Form) → word ≡ front text → words ≡ rest text → Some form ≡ form_named word → stated form words ≡ unmet_line text
+pub form-states : (text word words : List ℕ) (form : Form) → word ≡ front text → words ≡ rest text
+    → Some form ≡ form_named word → stated form words ≡ unmet_line text
 unfolding stated_if
 form-states text word words form first others is =
-    ap (stated form) others ∙ ap (λ o. stated_if o (rest text)) (is ∙ ap form_named first) ∙ by_form text
+    ap (stated form) others ∙ ap (λ o. stated_if o (rest text)) (is ∙ ap form_named first)
+    ∙ by_form text
 
 -- a line of no form
-pub no-form : (text word : List ℕ) → word ≡ front text → None ≡ form_named word → None ≡ unmet_line text
+pub no-form : (text word : List ℕ) → word ≡ front text → None ≡ form_named word
+    → None ≡ unmet_line text
 unfolding stated_if
-no-form text word first is = ap (λ o. stated_if o (rest text)) (is ∙ ap form_named first) ∙ by_form text
+no-form text word first is =
+    ap (λ o. stated_if o (rest text)) (is ∙ ap form_named first) ∙ by_form text

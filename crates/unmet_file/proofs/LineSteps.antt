@@ -1,5 +1,6 @@
 -- The lines of a file, one after the other.
-use Rattle.std.proofs.Common.{◌≡◌, ℕ, ◌+◌, Bool, List, [], ◌∷◌, Option, Some, None, option_map, Ok, refl, sym, ap, ◌∙◌}
+use Rattle.std.proofs.Common.{◌≡◌, ℕ, ◌+◌, Bool, List, [], ◌∷◌, Option, Some, None, option_map, Ok}
+use Rattle.std.proofs.Common.{refl, sym, ap, ◌∙◌}
 use Rattle.std.specs.List.{filter_map}
 use Rattle.std.specs.Option.{is_none}
 use Rattle.std.specs.Result.{result_err}
@@ -10,7 +11,8 @@ use Rattle.km_names.proofs.StatementSteps.{refusal_of}
 use Rattle.symbol_binding.specs.declared.unbound.Unbound.{Unbound}
 use Rattle.unmet_file.specs.Line.{unmet_line}
 use Rattle.unmet_file.specs.Unmet.{bad_line, stated_lines, unmet_of}
-use Rattle.unmet_file.proofs.StatedLines.{at_line, place_by, first-place, no-place, place-later, place-here}
+use Rattle.unmet_file.proofs.StatedLines.{at_line, place_by, first-place, no-place, place-later}
+use Rattle.unmet_file.proofs.StatedLines.{place-here}
 
 -- a line that states nothing
 abbrev is_bad : List ℕ → Bool
@@ -30,12 +32,18 @@ pub place-none : (file : List ℕ) (number : ℕ) → place_at file number [] �
 place-none file number = no-place is_bad file number
 
 -- a line that states something
-pub place-passed : (file : List ℕ) (number : ℕ) (line : List ℕ) (lines : List (List ℕ)) (x : Unbound) → Some x ≡ unmet_line line → place_at file number (line ∷ lines) ≡ place_at file (number + 1) lines
-place-passed file number line lines x is = place-later is_bad file number line lines (ap (λ o. is_none o) (sym is))
+pub place-passed : (file : List ℕ) (number : ℕ) (line : List ℕ) (lines : List (List ℕ))
+    (x : Unbound)
+    → Some x ≡ unmet_line line
+    → place_at file number (line ∷ lines) ≡ place_at file (number + 1) lines
+place-passed file number line lines x is =
+    place-later is_bad file number line lines (ap (λ o. is_none o) (sym is))
 
 -- one that doesn't
-pub place-found : (file : List ℕ) (number : ℕ) (line : List ℕ) (lines : List (List ℕ)) → None ≡ unmet_line line → place_at file number (line ∷ lines) ≡ Some (at_line file number)
-place-found file number line lines is = place-here is_bad file number line lines (ap (λ o. is_none o) (sym is))
+pub place-found : (file : List ℕ) (number : ℕ) (line : List ℕ) (lines : List (List ℕ))
+    → None ≡ unmet_line line → place_at file number (line ∷ lines) ≡ Some (at_line file number)
+place-found file number line lines is =
+    place-here is_bad file number line lines (ap (λ o. is_none o) (sym is))
 
 -- what a file states, from its lines on
 pub stated-begins : (text : List ℕ) → filter_map unmet_line (lines_of text) ≡ stated_lines text
@@ -43,11 +51,15 @@ unfolding stated_lines
 stated-begins text = refl
 
 -- a file of which no line is refused
-pub all-read : (file text : List ℕ) (lines : List Unbound) → bad_line file text ≡ None → stated_lines text ≡ lines → unmet_of file text ≡ Ok lines
+pub all-read : (file text : List ℕ) (lines : List Unbound) → bad_line file text ≡ None
+    → stated_lines text ≡ lines → unmet_of file text ≡ Ok lines
 unfolding unmet_of
 all-read file text lines good is = ap (λ o. unless_fault o (stated_lines text)) good ∙ ap Ok is
 
 -- a file with one
-pub one-bad : (file text : List ℕ) (fault : ConfFault) → option_map line_fault (bad_line file text) ≡ Some fault → option_map line_fault (result_err (unmet_of file text)) ≡ Some fault
+pub one-bad : (file text : List ℕ) (fault : ConfFault)
+    → option_map line_fault (bad_line file text) ≡ Some fault
+    → option_map line_fault (result_err (unmet_of file text)) ≡ Some fault
 unfolding unmet_of
-one-bad file text fault is = ap (option_map line_fault) (refusal_of (bad_line file text) (stated_lines text)) ∙ is
+one-bad file text fault is =
+    ap (option_map line_fault) (refusal_of (bad_line file text) (stated_lines text)) ∙ is

@@ -1,5 +1,7 @@
 -- Words of visible characters, with a space between them.
-use Rattle.std.proofs.Common.{◌≡◌, ℕ, suc, ◌+◌, ◌<◌, Bool, true, false, not, ◌&&◌, List, [], ◌∷◌, ◌++◌, length, take, drop, eqb, cond, Option, Some, None, option_map, refl, sym, ap, subst, ◌∙◌, length-append, arith}
+use Rattle.std.proofs.Common.{◌≡◌, ℕ, suc, ◌+◌, ◌<◌, Bool, true, false, not, ◌&&◌, List, [], ◌∷◌}
+use Rattle.std.proofs.Common.{◌++◌, length, take, drop, eqb, cond, Option, Some, None, option_map}
+use Rattle.std.proofs.Common.{refl, sym, ap, subst, ◌∙◌, length-append, arith}
 use Rattle.std.specs.Prelude.{codes}
 use Rattle.std.specs.List.{list_all, position_or_len}
 use Rattle.std.specs.Char.{is_ascii_graphic}
@@ -33,35 +35,49 @@ not-byte b c hidden shown = go (eqb b c) refl
         differ h = cc
     go false is = is
 
-seam : (word others : List ℕ) → list_all is_ascii_graphic word ≡ true → position_or_len (λ b. eqb b 32) (word ++ 32 ∷ others) ≡ length word
+seam : (word others : List ℕ) → list_all is_ascii_graphic word ≡ true
+    → position_or_len (λ b. eqb b 32) (word ++ 32 ∷ others) ≡ length word
 seam [] others h = refl
 seam (b ∷ bs) others h =
     let p = both_hold (is_ascii_graphic b) (list_all is_ascii_graphic bs) h in
-    ap (λ v. cond (not v) (1 + position_or_len (λ c. eqb c 32) (bs ++ 32 ∷ others)) 0) (not-byte b 32 refl p.0)
+    ap (λ v. cond (not v) (1 + position_or_len (λ c. eqb c 32) (bs ++ 32 ∷ others)) 0)
+    (not-byte b 32 refl p.0)
     ∙ ap (λ n. 1 + n) (seam bs others p.1)
     ∙ (omega arith)
 
 -- a word before a space
-pub front-word : (word others : List ℕ) → is_graphic word ≡ true → front (word ++ 32 ∷ others) ≡ word
+pub front-word : (word others : List ℕ) → is_graphic word ≡ true
+    → front (word ++ 32 ∷ others) ≡ word
 front-word word others h =
-    ap (λ n. take n (word ++ 32 ∷ others)) (seam word others (graphic-all word h)) ∙ take-append_seam word (32 ∷ others)
+    ap (λ n. take n (word ++ 32 ∷ others)) (seam word others (graphic-all word h))
+    ∙ take-append_seam word (32 ∷ others)
 
-pub rest-word : (word others : List ℕ) → is_graphic word ≡ true → rest (word ++ 32 ∷ others) ≡ others
+pub rest-word : (word others : List ℕ) → is_graphic word ≡ true
+    → rest (word ++ 32 ∷ others) ≡ others
 rest-word word others h =
-    ap (λ n. drop (n + 1) (word ++ 32 ∷ others)) (seam word others (graphic-all word h)) ∙ drop-append-add word (32 ∷ others) 1
+    ap (λ n. drop (n + 1) (word ++ 32 ∷ others)) (seam word others (graphic-all word h))
+    ∙ drop-append-add word (32 ∷ others) 1
 
 -- two words are read back, and three
-pub two-back : (a b : List ℕ) → is_graphic a ≡ true → is_graphic b ≡ true → two_words (a ++ (codes " " ++ b)) ≡ Some (a, b)
+pub two-back : (a b : List ℕ) → is_graphic a ≡ true → is_graphic b ≡ true
+    → two_words (a ++ (codes " " ++ b)) ≡ Some (a, b)
 two-back a b h k =
     rw (front-word a b h, rest-word a b h, h, k) refl
 
-pub three-back : (a b c : List ℕ) → is_graphic a ≡ true → is_graphic b ≡ true → is_graphic c ≡ true → three_words (three_text a b c) ≡ Some (a, b, c)
+pub three-back : (a b c : List ℕ) → is_graphic a ≡ true → is_graphic b ≡ true → is_graphic c ≡ true
+    → three_words (three_text a b c) ≡ Some (a, b, c)
 three-back a b c h k l =
     let others : List ℕ = b ++ (codes " " ++ c) in
-    rw (front-word a others h, rest-word a others h, h) (ap (option_map (λ w. (a, w.0, w.1))) (two-back b c k l))
+    rw (front-word a others h, rest-word a others h, h)
+    (ap (option_map (λ w. (a, w.0, w.1))) (two-back b c k l))
 
 -- a text whose rest isn't empty is its two parts with a space between
-more_joined : (b : ℕ) (bs : List ℕ) → (0 < length (rest bs) → front bs ++ 32 ∷ rest bs ≡ bs) → (v : Bool) → eqb b 32 ≡ v → 0 < length (drop (cond (not v) (1 + position_or_len (λ c. eqb c 32) bs) 0 + 1) (b ∷ bs)) → take (cond (not v) (1 + position_or_len (λ c. eqb c 32) bs) 0) (b ∷ bs) ++ 32 ∷ drop (cond (not v) (1 + position_or_len (λ c. eqb c 32) bs) 0 + 1) (b ∷ bs) ≡ b ∷ bs
+more_joined : (b : ℕ) (bs : List ℕ) → (0 < length (rest bs) → front bs ++ 32 ∷ rest bs ≡ bs)
+    → (v : Bool) → eqb b 32 ≡ v
+    → 0 < length (drop (cond (not v) (1 + position_or_len (λ c. eqb c 32) bs) 0 + 1) (b ∷ bs))
+    → take (cond (not v) (1 + position_or_len (λ c. eqb c 32) bs) 0) (b ∷ bs) ++ 32
+    ∷ drop (cond (not v) (1 + position_or_len (λ c. eqb c 32) bs) 0 + 1) (b ∷ bs)
+    ≡ b ∷ bs
 more_joined b bs later true is some = ap (λ c. c ∷ bs) (sym (eqb-true b 32 is))
 more_joined b bs later false is some =
     let n = position_or_len (λ c. eqb c 32) bs in
@@ -91,21 +107,28 @@ pub record AreThree (text : List ℕ) (w : List ℕ × List ℕ × List ℕ) : T
 pub two-written : (text : List ℕ) (w : List ℕ × List ℕ) → two_words text ≡ Some w → AreTwo text w
 two-written text w h = go (is_graphic (front text)) (is_graphic (rest text)) refl refl h
   where
-    go : (a b : Bool) → is_graphic (front text) ≡ a → is_graphic (rest text) ≡ b → cond (a && b) (Some (front text, rest text)) None ≡ Some w → AreTwo text w
+    go : (a b : Bool) → is_graphic (front text) ≡ a → is_graphic (rest text) ≡ b
+        → cond (a && b) (Some (front text, rest text)) None ≡ Some w → AreTwo text w
     go true true e f is =
         let p : (let q : List ℕ × List ℕ = (front text, rest text) in q) ≡ w = cc in
-        subst (AreTwo text) p (record { text_is = joined text (graphic-some (rest text) f); first = e; second = f })
+        subst (AreTwo text) p
+        (record { text_is = joined text (graphic-some (rest text) f); first = e; second = f })
     go true false e f is = absurd (cc)
     go false b e f is = absurd (cc)
 
-pub three-written : (text : List ℕ) (w : List ℕ × List ℕ × List ℕ) → three_words text ≡ Some w → AreThree text w
+pub three-written : (text : List ℕ) (w : List ℕ × List ℕ × List ℕ) → three_words text ≡ Some w
+    → AreThree text w
 three-written text w h = go (is_graphic (front text)) (two_words (rest text)) refl refl h
   where
-    go : (a : Bool) (o : Option (List ℕ × List ℕ)) → is_graphic (front text) ≡ a → two_words (rest text) ≡ o → cond a (option_map (λ v. (front text, v.0, v.1)) o) None ≡ Some w → AreThree text w
+    go : (a : Bool) (o : Option (List ℕ × List ℕ)) → is_graphic (front text) ≡ a
+        → two_words (rest text) ≡ o
+        → cond a (option_map (λ v. (front text, v.0, v.1)) o) None ≡ Some w → AreThree text w
     go true (Some v) e f is =
         let p : (let q : List ℕ × List ℕ × List ℕ = (front text, v.0, v.1) in q) ≡ w = cc in
         let two = two-written (rest text) v f in
-        let some : 0 < length (rest text) = subst (λ xs. 0 < length xs) two.text_is (omega (arith, length-append v.0 (32 ∷ v.1))) in
+        let some : 0 < length (rest text)
+        = subst (λ xs. 0 < length xs) two.text_is (omega (arith, length-append v.0 (32 ∷ v.1)))
+        in
         subst (AreThree text) p (record {
           text_is = ap (λ xs. front text ++ 32 ∷ xs) two.text_is ∙ joined text some;
           first = e;

@@ -1,5 +1,6 @@
 -- The file modules.unmet: its text, and what is read from one.
-use Rattle.std.specs.Prelude.{◌≡◌, ℕ, ◌+◌, true, All, List, [], ◌∷◌, ◌++◌, Option, Some, option_map, is_none, Result, Ok}
+use Rattle.std.specs.Prelude.{◌≡◌, ℕ, ◌+◌, true, All, List, [], ◌∷◌, ◌++◌, Option, Some, option_map}
+use Rattle.std.specs.Prelude.{is_none, Result, Ok}
 use Rattle.std.specs.List.{flat_map, filter_map, position}
 use Rattle.km_names.specs.Lines.{lines_of}
 use Rattle.km_names.specs.Statements.{LinePlace, unless_fault}
@@ -13,7 +14,8 @@ file_text lines = flat_map (λ line. line_text line ++ 10 ∷ []) lines
 -- The place of the first line of the text that isn't understood, in the file at the path.
 unfoldable pub bad_line : List ℕ → List ℕ → Option LinePlace
 bad_line file text =
-    option_map (λ i. record { file = file; number = i + 1 }) (position (λ line. is_none (unmet_line line)) (lines_of text))
+    option_map (λ i. record { file = file; number = i + 1 })
+    (position (λ line. is_none (unmet_line line)) (lines_of text))
 
 -- What the lines of the text state, in order.
 unfoldable pub stated_lines : List ℕ → List Unbound
@@ -26,8 +28,12 @@ unmet_of file text = unless_fault (bad_line file text) (stated_lines text)
 
 -- What is written is read back.
 abbrev pub AreReadBack : Type 0
-AreReadBack = (file : List ℕ) (lines : List Unbound) → All (λ line. is_line line ≡ true) lines → unmet_of file (file_text lines) ≡ Ok lines
+AreReadBack =
+    (file : List ℕ) (lines : List Unbound) → All (λ line. is_line line ≡ true) lines
+    → unmet_of file (file_text lines) ≡ Ok lines
 
 -- A line that is read from a text has visible words, and the text is its own.
 abbrev pub IsReadAsWritten : Type 0
-IsReadAsWritten = (text : List ℕ) (line : Unbound) → unmet_line text ≡ Some line → (line_text line ≡ text) × (is_line line ≡ true)
+IsReadAsWritten =
+    (text : List ℕ) (line : Unbound) → unmet_line text ≡ Some line
+    → (line_text line ≡ text) × (is_line line ≡ true)

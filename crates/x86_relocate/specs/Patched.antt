@@ -1,6 +1,7 @@
 -- An image with words at places: each patch's bytes hold its word, the lowest byte first, and every
 -- other byte is as before. System V ABI, x86-64 supplement, "Relocation".
-use Rattle.std.specs.Prelude.{ℕ, ◌+◌, ◌-◌, ◌≤◌, ◌<◌, ◌&&◌, Bool, not, nat_le, nat_lt, List, [], length, map, slice_index, find, Option, Result, Ok, Err, is_ok}
+use Rattle.std.specs.Prelude.{ℕ, ◌+◌, ◌-◌, ◌≤◌, ◌<◌, ◌&&◌, Bool, not, nat_le, nat_lt, List, []}
+use Rattle.std.specs.Prelude.{length, map, slice_index, find, Option, Result, Ok, Err, is_ok}
 use Rattle.std.specs.Int.{to_le_bytes, w32, w64}
 use Rattle.std.specs.List.{range_with_len}
 use Rattle.std.specs.Option.{option_map_or}
@@ -47,7 +48,8 @@ bytes_of (Err too_wide) = []
 -- there.
 abbrev pub byte_at : List ℕ → List Patch → ℕ → ℕ
 byte_at image patches place =
-    option_map_or (λ patch. slice_index (bytes_of (word_of patch)) (place - patch.at)) (find (covers place) patches) (slice_index image place)
+    option_map_or (λ patch. slice_index (bytes_of (word_of patch)) (place - patch.at))
+    (find (covers place) patches) (slice_index image place)
 
 -- The image with the words of these patches. No two of them share a place.
 unfoldable pub patched : List ℕ → List Patch → List ℕ

@@ -1,7 +1,10 @@
 -- The words of the x86-64's relocations. System V ABI, x86-64 supplement, "Relocation", the table
 -- of types, with S the address of the symbol, A the addend and P the address of the place.
-use Rattle.std.specs.Prelude.{ℕ, ◌-◌, ◌%◌, ◌^◌, ◌==◌, ◌&&◌, ◌||◌, ℤ, pos, negsuc, neg_ℤ, ◌+ℤ◌, ◌-ℤ◌, int_le, nat_lt, if◌then◌else◌, Result, Ok, Err}
-use Rattle.elf_format.specs.declared.relocation.TheConstants.{R_X86_64_NONE, R_X86_64_64, R_X86_64_PC32, R_X86_64_PLT32, R_X86_64_32, R_X86_64_32S}
+use Rattle.std.specs.Prelude.{ℕ, ◌-◌, ◌%◌, ◌^◌, ◌==◌, ◌&&◌, ◌||◌, ℤ, pos, negsuc, neg_ℤ, ◌+ℤ◌, ◌-ℤ◌}
+use Rattle.std.specs.Prelude.{int_le, nat_lt, if◌then◌else◌, Result, Ok, Err}
+use Rattle.elf_format.specs.declared.relocation.TheConstants.{R_X86_64_NONE, R_X86_64_64}
+use Rattle.elf_format.specs.declared.relocation.TheConstants.{R_X86_64_PC32, R_X86_64_PLT32}
+use Rattle.elf_format.specs.declared.relocation.TheConstants.{R_X86_64_32, R_X86_64_32S}
 use Rattle.km_names.specs.Number.{signed}
 use Rattle.x86_relocate.specs.declared.word.TooWide.{TooWide}
 use Rattle.x86_relocate.specs.declared.word.Written.{Written}
@@ -23,7 +26,9 @@ zero_extended value = if nat_lt value (2 ^ 32) then Ok (Four value) else Err (re
 -- The field word32 of the other types: its sign extension has to be the value.
 abbrev pub sign_extended : ℕ → Result Written TooWide
 sign_extended value =
-    if int_le (neg_ℤ (pos (2 ^ 31))) (signed value) && int_le (signed value) (pos (2 ^ 31 - 1)) then Ok (Four (value % 2 ^ 32)) else Err (record {})
+    if int_le (neg_ℤ (pos (2 ^ 31))) (signed value) && int_le (signed value) (pos (2 ^ 31 - 1))
+    then Ok (Four (value % 2 ^ 32))
+    else Err (record {})
 
 -- What a relocation writes: S + A, or S + A - P, in the field of its type. The table computes
 -- R_X86_64_PLT32 from the entry of a procedure linkage table. There is none here, and as in Linux's

@@ -2,9 +2,9 @@
 //!
 //! [`value`] is the psABI's table as arithmetic on whole numbers. [`apply`] is one pass over the
 //! patches and takes no memory. Afterwards each patch's bytes hold its word, and every other byte
-//! is as before. [`write_word`] does the same for one patch, for callers that don't keep a list. The crate
-//! uses `elf_format` for the types and their widths, `km_names` for the list of patches, and
-//! `raw_image` for the image, which it sees as a list of bytes.
+//! is as before. [`write_word`] does the same for one patch, for callers that don't keep a list.
+//! The crate uses `elf_format` for the types and their widths, `km_names` for the list of patches,
+//! and `raw_image` for the image, which it sees as a list of bytes.
 #![tactic(auto)]
 
 mod patch;

@@ -1,10 +1,12 @@
-ghost use Rattle.std.specs.Prelude.{◌≡◌, ◌++◌, ◌∷◌, [], ℕ, List, OnOk, OnErr, All, AllPairs, length, is_ok, take_while};
+ghost use Rattle.std.specs.Prelude.{◌≡◌, ◌++◌, ◌∷◌, [], ℕ, List, OnOk, OnErr, All, AllPairs};
+ghost use Rattle.std.specs.Prelude.{length, is_ok, take_while};
 ghost use Rattle.std.specs.Option.{option_map};
 ghost use Rattle.std.specs.Result.{result_err};
 ghost use Rattle.raw_image.specs.Bytes.{with_bytes};
 ghost use Rattle.elf_format.specs.Relocation.{IsKnown};
 ghost use Rattle.x86_relocate.specs.declared.patch.Patch.{Patch};
-ghost use Rattle.x86_relocate.specs.Patched.{IsApart, IsWithin, bytes_of, fits, first_too_wide, overflow_of, patched, word_of};
+ghost use Rattle.x86_relocate.specs.Patched.{IsApart, IsWithin, bytes_of, fits, first_too_wide};
+ghost use Rattle.x86_relocate.specs.Patched.{overflow_of, patched, word_of};
 
 use crate::{TooWide, Written, value};
 use km_names::List;

@@ -13,9 +13,12 @@ loop-k-preserved c = λ j found.
     let machine = c.args.machine.now in
     let name = c.args.name.now in
     let k = c.loop-k.k - 1 in
-    let differs : bytes_eq c.module_at.result.now.name name ≡ false = ap (λ l. bytes_eq l name) (sym c.as_bytes.ensures) ∙ sym c.eq.ensures ∙ c.if-eq.false in
-    let other : is_named_at machine name k ≡ false = sym (named-at machine name k c.module_at.result.now c.module_at.ensures) ∙ differs in
-    not-at (is_named_at machine name) (length machine.entries) j c.loop-k.k found (c.loop-k.invariant j found) other
+    let differs : bytes_eq c.module_at.result.now.name name ≡ false
+    = ap (λ l. bytes_eq l name) (sym c.as_bytes.ensures) ∙ sym c.eq.ensures ∙ c.if-eq.false in
+    let other : is_named_at machine name k ≡ false
+    = sym (named-at machine name k c.module_at.result.now c.module_at.ensures) ∙ differs in
+    not-at (is_named_at machine name) (length machine.entries) j c.loop-k.k found
+    (c.loop-k.invariant j found) other
 
 pub returns-then-eq : goal.returns-then-eq
 returns-then-eq c =

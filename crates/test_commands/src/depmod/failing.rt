@@ -140,8 +140,8 @@ fn expect_call(rt: &impl Abort, alloc: Global, call: CallRow) {
     expect_index(rt, alloc, &row);
 }
 
-/// The writes to the output of a run with `-n`: their numbers, what was written before, and the line
-/// on err. The last run has no write of that number, and is done.
+/// The writes to the output of a run with `-n`: their numbers, what was written before, and the
+/// line on err. The last run has no write of that number, and is done.
 static WRITES: [(u8, &str, &str); 5] = [
     (0, "", "kmod: output fault\n"),
     (

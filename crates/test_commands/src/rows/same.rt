@@ -1,5 +1,5 @@
-// What rows are compared by. Each comparison is in a function of its own: what it is made of needn't
-// be carried along in every test.
+// What rows are compared by. Each comparison is in a function of its own: what it is made of
+// needn't be carried along in every test.
 use crate::rows::objects::{Objects, paths_of};
 use crate::rows::row::RowOf;
 use km_names::{PathText, Paths};

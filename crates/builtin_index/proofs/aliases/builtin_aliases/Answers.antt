@@ -14,8 +14,10 @@ pub map_of_aliases-requires : goal.map_of_aliases-requires
 map_of_aliases-requires c =
     subst (All IsWord) (sym c.deref.ensures.value)
     (sorted-words c.in_ok-list.list.items c.sort_by_key.new.self.items
-    (c.in_ok-sort_by_key.ensures.sorted (λ s. s.place) (always_returns_same _ _ _ (λ a r q k. search rules)))
-    (c.in_ok-sort_by_key.ensures.stable (λ s. s.place) (always_returns_same _ _ _ (λ a r q k. search rules)))
+    (c.in_ok-sort_by_key.ensures.sorted (λ s. s.place)
+    (always_returns_same _ _ _ (λ a r q k. search rules)))
+    (c.in_ok-sort_by_key.ensures.stable (λ s. s.place)
+    (always_returns_same _ _ _ (λ a r q k. search rules)))
     c.in_ok-list.ensures.words)
 
 pub returns : goal.returns
@@ -27,8 +29,10 @@ returns c =
     let same =
     ap (λ l. map_of (filter_map value_at (map alias_shown l))) c.deref.ensures.value
     ∙ sorted-values before after empty
-    (c.in_ok-sort_by_key.ensures.sorted (λ s. s.place) (always_returns_same _ _ _ (λ a r q k. search rules)))
-    (c.in_ok-sort_by_key.ensures.stable (λ s. s.place) (always_returns_same _ _ _ (λ a r q k. search rules)))
+    (c.in_ok-sort_by_key.ensures.sorted (λ s. s.place)
+    (always_returns_same _ _ _ (λ a r q k. search rules)))
+    (c.in_ok-sort_by_key.ensures.stable (λ s. s.place)
+    (always_returns_same _ _ _ (λ a r q k. search rules)))
     ∙ ap (λ list. map_of (filter_map value_at list)) c.in_ok-list.ensures.aliases
     ∙ ap map_of (same-values (modules_of fields) fields) in
     IfOk-weaker c.map_of_aliases.result _ _ (λ m is. is ∙ same) c.map_of_aliases.ensures

@@ -16,13 +16,20 @@ returns-in_err-asked g c = λ err.
 
 pub returns-in-Some : goal.returns-in-Some
 returns-in-Some g c = λ err.
-    subst (λ asked. Follows (λ (x : ⊤). x) (builtin_alias_asked_for asked) (world (g.F.Reads.seen c.args.files.now) (g.O.Out.seen c.args.out.now) err) (world (g.F.Reads.seen c.show_names.new.files) (g.O.Out.seen c.show_names.new.out) err) c.show_names.result)
+    subst (λ asked. Follows (λ (x : ⊤). x) (builtin_alias_asked_for asked)
+    (world (g.F.Reads.seen c.args.files.now) (g.O.Out.seen c.args.out.now) err)
+    (world (g.F.Reads.seen c.show_names.new.files) (g.O.Out.seen c.show_names.new.out) err)
+    c.show_names.result)
     (sym c.in-Some.is ∙ c.in_ok-asked.ensures)
     (c.show_names.ensures err)
 
 pub returns-in-None : goal.returns-in-None
 returns-in-None g c = λ err.
-    subst (λ asked. Follows (λ (x : ⊤). x) (builtin_alias_asked_for asked) (world (g.F.Reads.seen c.args.files.now) (g.O.Out.seen c.args.out.now) err) (world (g.F.Reads.seen c.args.files.now) (g.O.Out.seen c.args.out.now) err) (Err c.from.result))
+    subst (λ asked. Follows (λ (x : ⊤). x) (builtin_alias_asked_for asked)
+    (world (g.F.Reads.seen c.args.files.now) (g.O.Out.seen c.args.out.now) err)
+    (world (g.F.Reads.seen c.args.files.now) (g.O.Out.seen c.args.out.now) err)
+    (Err c.from.result))
     (sym c.in-None.is ∙ c.in_ok-asked.ensures)
     (answered (λ (x : ⊤). x) (end NotUnderstood) _ (Err c.from.result)
-    (subst (λ stop. Answers (λ (x : ⊤). x) (end NotUnderstood) (Err stop)) (sym c.from.ensures) refl))
+    (subst (λ stop. Answers (λ (x : ⊤). x) (end NotUnderstood) (Err stop)) (sym c.from.ensures)
+    refl))

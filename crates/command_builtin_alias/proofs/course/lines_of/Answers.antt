@@ -2,7 +2,8 @@ use Rattle.std.proofs.Common.{◌≡◌, ◌<◌, subst, ◌++◌, ◌∷◌, []
 use Rattle.command_builtin_alias.specs.BuiltinAlias.{lines_of_names}
 use Rattle.command_builtin_alias.proofs.LineSteps.{lines-more, none-there}
 use Rattle.command_builtin_alias.proofs.course.lines_of.Goals as goal
-use Rattle.command_builtin_alias.proofs.course.lines_of.Goals.{in-Some+in_ok-extend+in_ok-push, in_default}
+use Rattle.command_builtin_alias.proofs.course.lines_of.Goals.{in-Some+in_ok-extend+in_ok-push}
+use Rattle.command_builtin_alias.proofs.course.lines_of.Goals.{in_default}
 
 pub loop-place-preserved : goal.loop-place-preserved
 loop-place-preserved c =
@@ -12,8 +13,12 @@ loop-place-preserved c =
       | in-Some+in_ok-extend+in_ok-push w ↦
           w.text-is
           ∙ w.in_ok-push.ensures.ok
-          ∙ ap (λ t. t ++ 10 ∷ []) (w.in_ok-extend.ensures.ok ∙ ap (λ t. t ++ w.in-Some.name.now) c.loop-place.invariant)
+          ∙ ap (λ t. t ++ 10 ∷ [])
+          (w.in_ok-extend.ensures.ok ∙ ap (λ t. t ++ w.in-Some.name.now) c.loop-place.invariant)
           ∙ append_assoc (lines_of_names (take place names)) w.in-Some.name.now (10 ∷ [])
           ∙ sym (lines-more names place w.in-Some.name.now w.in-Some.ensures)
-      | in_default w ↦ absurd (none-there names place (subst (λ n. place < n) c.len-place-end.ensures c.loop-place-test.true) w.in_default.ensures)
+      | in_default w ↦ absurd
+          (none-there names place
+          (subst (λ n. place < n) c.len-place-end.ensures c.loop-place-test.true)
+          w.in_default.ensures)
     ]

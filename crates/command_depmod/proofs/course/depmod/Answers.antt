@@ -22,4 +22,5 @@ pub returns-in-None : goal.returns-in-None
 returns-in-None g c =
     along depmod_asked_for _ _ (sym c.in-None.is ∙ c.in_ok-asked.ensures)
     (answered (λ (x : ⊤). x) (end NotUnderstood) _ (Err c.from.result)
-    (subst (λ stop. Answers (λ (x : ⊤). x) (end NotUnderstood) (Err stop)) (sym c.from.ensures) refl))
+    (subst (λ stop. Answers (λ (x : ⊤). x) (end NotUnderstood) (Err stop)) (sym c.from.ensures)
+    refl))

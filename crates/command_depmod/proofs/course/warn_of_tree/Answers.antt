@@ -5,4 +5,6 @@ use Rattle.command_depmod.proofs.course.warn_of_tree.Goals as goal
 
 pub returns : goal.returns
 returns g c = λ files out.
-    along (warns_unmet c.args.wanted.errsyms c.args.wanted.versions) _ _ (c.as_slice-obstacles.ensures ∙ c.obstacles.ensures ∙ c.requires.relation.obstacles) (c.warn_unmet.ensures files out)
+    along (warns_unmet c.args.wanted.errsyms c.args.wanted.versions) _ _
+    (c.as_slice-obstacles.ensures ∙ c.obstacles.ensures ∙ c.requires.relation.obstacles)
+    (c.warn_unmet.ensures files out)

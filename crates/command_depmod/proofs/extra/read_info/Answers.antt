@@ -9,7 +9,8 @@ use Rattle.command_depmod.proofs.extra.read_info.Goals as goal
 
 pub returns-then-not-extra-clause-follows : goal.returns-then-not-extra-clause-follows
 returns-then-not-extra-clause-follows g c = λ out err.
-    passed_over (λ (x : Option (List ℕ)). x) _ _ _ _ _ _ (sym c.if-not-extra.true) (gave (λ (x : Option (List ℕ)). x) _ None)
+    passed_over (λ (x : Option (List ℕ)). x) _ _ _ _ _ _ (sym c.if-not-extra.true)
+    (gave (λ (x : Option (List ℕ)). x) _ None)
 
 pub returns-in_err-file-clause-follows : goal.returns-in_err-file-clause-follows
 returns-in_err-file-clause-follows g c = λ out err.
@@ -18,7 +19,9 @@ returns-in_err-file-clause-follows g c = λ out err.
 
 pub returns-in_err-bytes-clause-follows : goal.returns-in_err-bytes-clause-follows
 returns-in_err-bytes-clause-follows g c = λ out err.
-    let p = err_from_is_err_and c.from_residual-in_err-bytes.result c.from_residual-in_err-bytes.ensures.1 in
+    let p
+    = err_from_is_err_and c.from_residual-in_err-bytes.result
+    c.from_residual-in_err-bytes.ensures.1 in
     chosen (λ (x : Option (List ℕ)). x) _ _ _ _ _ _ (sym c.if-not-extra.false)
     (along (λ file. reads_any file >>= info_given) _ _ c.in_ok-file.ensures
     (exits _ _ info_given p.1 p.2 (c.in_err-bytes.ensures.follows out err)))

@@ -24,29 +24,46 @@ returns-in_err-path-clause-follows g c = λ out err.
 pub returns-then-is_compressed-clause-follows : goal.returns-then-is_compressed-clause-follows
 returns-then-is_compressed-clause-follows g c = λ out err.
     let path = c.args.path.now in
-    chosen (λ (x : Facts). x) (is_compressed path) (ends (Refused (Compressed path))) (reads (path_below c.args.folder.now path) >>= checked path) _ _ _ c.if-is_compressed.ensures
+    chosen (λ (x : Facts). x) (is_compressed path) (ends (Refused (Compressed path)))
+    (reads (path_below c.args.folder.now path) >>= checked path) _ _ _
+    c.if-is_compressed.ensures
     (answered (λ (x : Facts). x) (end (Refused (Compressed path))) _ (Err c.from.result)
-    (subst (λ stop. Answers (λ (x : Facts). x) (end (Refused (Compressed path))) (Err stop)) (sym (c.from.ensures ∙ ap (λ p. Ended (Refused (Compressed p))) (c.in_ok-path.ensures ∙ c.as_bytes.ensures))) refl))
+    (subst (λ stop. Answers (λ (x : Facts). x) (end (Refused (Compressed path))) (Err stop))
+    (sym (c.from.ensures
+    ∙ ap (λ p. Ended (Refused (Compressed p)))
+    (c.in_ok-path.ensures ∙ c.as_bytes.ensures))) refl))
 
 pub returns-in_err-file-clause-follows : goal.returns-in_err-file-clause-follows
 returns-in_err-file-clause-follows g c = λ out err.
-    let p = err_from_is_err_and c.from_residual-in_err-file.result c.from_residual-in_err-file.ensures.1 in
+    let p
+    = err_from_is_err_and c.from_residual-in_err-file.result
+    c.from_residual-in_err-file.ensures.1 in
     wants _ _ _ _ p.1 p.2
 
-pub returns-in_err-read_needed_into-clause-follows : goal.returns-in_err-read_needed_into-clause-follows
+pub returns-in_err-read_needed_into-clause-follows :
+    goal.returns-in_err-read_needed_into-clause-follows
 returns-in_err-read_needed_into-clause-follows g c = λ out err.
-    let p = err_from_is_err_and c.from_residual-in_err-read_needed_into.result c.from_residual-in_err-read_needed_into.ensures.1 in
+    let p
+    = err_from_is_err_and c.from_residual-in_err-read_needed_into.result
+    c.from_residual-in_err-read_needed_into.ensures.1 in
     passed_over _ _ _ _ _ _ _ c.if-is_compressed.ensures
-    (along (λ file. reads file >>= checked c.args.path.now) _ _ (c.in_ok-file.ensures ∙ ap (path_below c.args.folder.now) c.as_bytes-2.ensures)
-    (exits _ _ (checked c.args.path.now) p.1 p.2 (c.in_err-read_needed_into.ensures.follows out err)))
+    (along (λ file. reads file >>= checked c.args.path.now) _ _
+    (c.in_ok-file.ensures ∙ ap (path_below c.args.folder.now) c.as_bytes-2.ensures)
+    (exits _ _ (checked c.args.path.now) p.1 p.2
+    (c.in_err-read_needed_into.ensures.follows out err)))
 
 pub returns-clause-follows : goal.returns-clause-follows
 returns-clause-follows g c = λ out err.
     let path = c.args.path.now in
     let bytes = c.read_needed_into.new.buffer in
-    let answers : Answers (λ (x : Facts). x) (facts_outcome path bytes (fact_fault path bytes)) c.check_facts.result =
-    subst (λ b. Answers (λ (x : Facts). x) (facts_outcome path b (fact_fault path b)) c.check_facts.result) c.as_bytes-3.ensures c.check_facts.ensures.answers in
+    let answers : Answers (λ (x : Facts). x) (facts_outcome path bytes (fact_fault path bytes))
+    c.check_facts.result
+    =
+    subst (λ b. Answers (λ (x : Facts). x) (facts_outcome path b (fact_fault path b))
+    c.check_facts.result) c.as_bytes-3.ensures c.check_facts.ensures.answers in
     passed_over _ _ _ _ _ _ _ c.if-is_compressed.ensures
-    (along (λ file. reads file >>= checked path) _ _ (c.in_ok-file.ensures ∙ ap (path_below c.args.folder.now) c.as_bytes-2.ensures)
+    (along (λ file. reads file >>= checked path) _ _
+    (c.in_ok-file.ensures ∙ ap (path_below c.args.folder.now) c.as_bytes-2.ensures)
     (next (checked path) (c.in_ok-read_needed_into.ensures.follows out err)
-    (answered (λ (x : Facts). x) (facts_outcome path bytes (fact_fault path bytes)) _ c.check_facts.result answers)))
+    (answered (λ (x : Facts). x) (facts_outcome path bytes (fact_fault path bytes)) _
+    c.check_facts.result answers)))

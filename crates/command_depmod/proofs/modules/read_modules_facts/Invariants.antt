@@ -11,7 +11,8 @@ use Rattle.command_depmod.proofs.modules.read_modules_facts.Given as goal
 -- those of the first paths.
 abbrev pub invariant-loop-path : goal.invariant-loop-path
 invariant-loop-path g l = record {
-  leads : (out err : OutSeen) → LeadsTo (λ (x : List Facts). x) (reads_modules_facts l.folder l.paths)
+  leads : (out err : OutSeen)
+      → LeadsTo (λ (x : List Facts). x) (reads_modules_facts l.folder l.paths)
       (world (g.F.Reads.seen l.fn.files) out err)
       (the_others l.folder (drop l.path-index l.paths) l.tree)
       (world (g.F.Reads.seen l.files) out err);

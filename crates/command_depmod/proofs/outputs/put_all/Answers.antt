@@ -6,8 +6,10 @@ use Rattle.command_depmod.proofs.outputs.put_all.Goals as goal
 
 pub returns-then-extra : goal.returns-then-extra
 returns-then-extra g c = λ out err.
-    along (λ extra. puts_each c.args.folder.now c.args.made.now (all_files extra)) true c.args.extra (sym c.if-extra.true) (c.put_each.ensures out err)
+    along (λ extra. puts_each c.args.folder.now c.args.made.now (all_files extra)) true c.args.extra
+    (sym c.if-extra.true) (c.put_each.ensures out err)
 
 pub returns : goal.returns
 returns g c = λ out err.
-    along (λ extra. puts_each c.args.folder.now c.args.made.now (all_files extra)) false c.args.extra (sym c.if-extra.false) (c.put_each-2.ensures out err)
+    along (λ extra. puts_each c.args.folder.now c.args.made.now (all_files extra)) false
+    c.args.extra (sym c.if-extra.false) (c.put_each-2.ensures out err)

@@ -14,4 +14,6 @@ returns-in_err-path g c = λ out err.
 pub returns : goal.returns
 returns g c = λ out err.
     along (puts (path_below c.args.folder.now _)) _ _ c.content.ensures
-    (along (λ path. puts path c.content.result.now) _ _ (c.in_ok-path.ensures ∙ ap (path_below c.args.folder.now) c.name.ensures) (c.put.ensures out err))
+    (along (λ path. puts path c.content.result.now) _ _
+    (c.in_ok-path.ensures ∙ ap (path_below c.args.folder.now) c.name.ensures)
+    (c.put.ensures out err))

@@ -5,4 +5,6 @@ pub returns-in-Ok : goal.returns-in-Ok
 returns-in-Ok c = stated_ok _ c.in-Ok.search c.in-Ok.ensures.ok
 
 pub returns-in-Err : goal.returns-in-Err
-returns-in-Err c = stated_fault _ c.in-Err.fault c.stop_of_fault.result c.stop_of_fault.ensures c.in-Err.ensures.err
+returns-in-Err c =
+    stated_fault _ c.in-Err.fault c.stop_of_fault.result c.stop_of_fault.ensures
+    c.in-Err.ensures.err

@@ -14,4 +14,5 @@ returns-in_err-read g c = λ out err.
 pub returns : goal.returns
 returns g c = λ out err.
     next understood (c.in_ok-read.ensures.follows out err)
-    (answered (λ (x : List (List ℕ)). x) (stated_outcome (search_of c.in_ok-read.read)) _ c.parse.result c.parse.ensures)
+    (answered (λ (x : List (List ℕ)). x) (stated_outcome (search_of c.in_ok-read.read)) _
+    c.parse.result c.parse.ensures)

@@ -15,13 +15,17 @@ returns-in_err-listed-clause-follows g c = λ out err.
 
 pub returns-in_err-order_file-clause-follows : goal.returns-in_err-order_file-clause-follows
 returns-in_err-order_file-clause-follows g c = λ out err.
-    let p = err_from_is_err_and c.from_residual-in_err-order_file.result c.from_residual-in_err-order_file.ensures.1 in
+    let p
+    = err_from_is_err_and c.from_residual-in_err-order_file.result
+    c.from_residual-in_err-order_file.ensures.1 in
     let later = listed c.args.folder.now c.args.search.now in
     next later (c.in_ok-listed.ensures out err) (wants _ _ _ _ p.1 p.2)
 
 pub returns-in_err-order-clause-follows : goal.returns-in_err-order-clause-follows
 returns-in_err-order-clause-follows g c = λ out err.
-    let p = err_from_is_err_and c.from_residual-in_err-order.result c.from_residual-in_err-order.ensures.1 in
+    let p
+    = err_from_is_err_and c.from_residual-in_err-order.result
+    c.from_residual-in_err-order.ensures.1 in
     let later = listed c.args.folder.now c.args.search.now in
     let last = ordered c.args.search.now c.in_ok-listed.listed in
     next later (c.in_ok-listed.ensures out err)
@@ -35,4 +39,6 @@ returns-clause-follows g c = λ out err.
     next later (c.in_ok-listed.ensures out err)
     (along (λ file. reads_any file >>= last) _ _ c.in_ok-order_file.ensures
     (next last (c.in_ok-order.ensures.follows out err)
-    (answered (λ (x : List (List ℕ)). x) (tree_outcome c.in_ok-listed.listed c.in_ok-order.order c.args.search.now) _ c.choose_tree.result c.choose_tree.ensures.answers)))
+    (answered (λ (x : List (List ℕ)). x)
+    (tree_outcome c.in_ok-listed.listed c.in_ok-order.order c.args.search.now) _
+    c.choose_tree.result c.choose_tree.ensures.answers)))

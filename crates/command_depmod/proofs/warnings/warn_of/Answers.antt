@@ -11,7 +11,8 @@ returns-in_err-text g c = λ files out.
 
 pub returns-in-Some : goal.returns-in-Some
 returns-in-Some g c = λ files out.
-    warned _ c.in-Some.text _ _ _ _ (sym c.in-Some.is ∙ c.in_ok-text.ensures) c.as_bytes.ensures (c.warn.ensures files out)
+    warned _ c.in-Some.text _ _ _ _ (sym c.in-Some.is ∙ c.in_ok-text.ensures) c.as_bytes.ensures
+    (c.warn.ensures files out)
 
 pub returns-in-None : goal.returns-in-None
 returns-in-None g c = λ files out. warned_none _ _ (sym c.in-None.is ∙ c.in_ok-text.ensures)

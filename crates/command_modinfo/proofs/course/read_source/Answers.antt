@@ -17,17 +17,22 @@ returns-in_err-folder-in-Some g c = λ out err.
 
 pub returns-in_err-read_modules-in-Some : goal.returns-in_err-read_modules-in-Some
 returns-in_err-read_modules-in-Some g c = λ out err.
-    let p = err_from_is_err_and c.from_residual-in_err-read_modules-in-Some.result c.from_residual-in_err-read_modules-in-Some.ensures.1 in
+    let p
+    = err_from_is_err_and c.from_residual-in_err-read_modules-in-Some.result
+    c.from_residual-in_err-read_modules-in-Some.ensures.1 in
     by_version _ _ _ _ _ _ _ c.in-Some.is c.in_ok-folder-in-Some.ensures
     (exits _ _ named p.1 p.2 (c.in_err-read_modules-in-Some.ensures out err))
 
 pub returns-in-None : goal.returns-in-None
 returns-in-None g c = λ out err.
-    subst (λ version. Follows (λ (x : Source). x) (reads_source version c.args.root.now) (world (g.F.Reads.seen c.args.files.now) out err) (world (g.F.Reads.seen c.args.files.now) out err) (Ok Paths))
+    subst (λ version. Follows (λ (x : Source). x) (reads_source version c.args.root.now)
+    (world (g.F.Reads.seen c.args.files.now) out err)
+    (world (g.F.Reads.seen c.args.files.now) out err) (Ok Paths))
     (sym c.in-None.is)
     (gave (λ (x : Source). x) _ Paths)
 
 pub returns-in_ok-read_modules-in-Some : goal.returns-in_ok-read_modules-in-Some
 returns-in_ok-read_modules-in-Some g c = λ out err.
     by_version _ _ _ _ _ _ _ c.in-Some.is c.in_ok-folder-in-Some.ensures
-    (next named (c.in_ok-read_modules-in-Some.ensures out err) (gave (λ (x : Source). x) _ (Names c.in_ok-read_modules-in-Some.field-0)))
+    (next named (c.in_ok-read_modules-in-Some.ensures out err)
+    (gave (λ (x : Source). x) _ (Names c.in_ok-read_modules-in-Some.field-0)))

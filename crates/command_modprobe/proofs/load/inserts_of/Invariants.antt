@@ -8,6 +8,7 @@ use Rattle.command_modprobe.proofs.load.inserts_of.Given as goal
 -- The steps so far run no command, and the modules that they load are there.
 abbrev pub invariant-loop-step : goal.invariant-loop-step
 invariant-loop-step l = record {
-  command : first (map command_owner (drop l.step-index l.steps)) ≡ first (map command_owner l.steps);
+  command : first (map command_owner (drop l.step-index l.steps))
+      ≡ first (map command_owner l.steps);
   inserts : l.inserts ++ flat_map inserted (drop l.step-index l.steps) ≡ flat_map inserted l.steps;
 }

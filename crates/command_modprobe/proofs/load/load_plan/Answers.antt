@@ -15,8 +15,10 @@ returns-in_err-basis g c = λ err.
     let p = err_from_is_err_and c.from_residual.result c.from_residual.ensures.1 in
     let asked = c.args.asked in
     let folder = modules_folder asked.dirname asked.version in
-    loads-asked asked folder (images_asked asked) (request_of asked) c.args.system_map asked.symvers c.region-region.result _ _ _ refl refl refl refl c.region-region.ensures
-    (exits _ _ (loads_known folder (images_asked asked) (request_of asked) c.args.system_map asked.symvers c.region-region.result) p.1 p.2
+    loads-asked asked folder (images_asked asked) (request_of asked) c.args.system_map asked.symvers
+    c.region-region.result _ _ _ refl refl refl refl c.region-region.ensures
+    (exits _ _ (loads_known folder (images_asked asked) (request_of asked) c.args.system_map
+    asked.symvers c.region-region.result) p.1 p.2
     (c.in_err-basis.ensures.known (g.O.Out.seen c.args.out.now) err))
 
 pub returns : goal.returns
@@ -25,9 +27,14 @@ returns g c = λ err.
     let basis = c.in_ok-basis.basis in
     let symvers = c.take-symvers.result in
     let images : Images = record { folder = c.take.result; params = asked.params } in
-    let shown = ap (λ (folder : Option (List ℕ)). record { folder = folder; params = asked.params }) c.take.ensures.value in
-    loads-asked asked basis.folder images basis.request c.args.system_map symvers c.region-region.result _ _ _
-    c.in_ok-basis.ensures.folder shown c.in_ok-basis.ensures.request c.take-symvers.ensures.value c.region-region.ensures
-    (next (loads_known basis.folder images basis.request c.args.system_map symvers c.region-region.result)
+    let shown
+    = ap (λ (folder : Option (List ℕ)). record { folder = folder; params = asked.params })
+    c.take.ensures.value in
+    loads-asked asked basis.folder images basis.request c.args.system_map symvers
+    c.region-region.result _ _ _
+    c.in_ok-basis.ensures.folder shown c.in_ok-basis.ensures.request c.take-symvers.ensures.value
+    c.region-region.ensures
+    (next (loads_known basis.folder images basis.request c.args.system_map symvers
+    c.region-region.result)
     (c.in_ok-basis.ensures.known (g.O.Out.seen c.args.out.now) err)
     (c.load_known.ensures err))

@@ -14,14 +14,20 @@ returns-in_err-names g c = λ files err.
     let known = c.args.known.now in
     let request = c.args.request.now in
     exits _ _ after_names p.1 p.2
-    (along (λ names. given (names_outcome known request.use_blacklist names)) _ request.names c.as_slice.ensures
-    (answered (λ (x : List (List ℕ)). x) (names_outcome known request.use_blacklist c.as_slice.result.now) _ (Err _) c.in_err-names.ensures))
+    (along (λ names. given (names_outcome known request.use_blacklist names)) _ request.names
+    c.as_slice.ensures
+    (answered (λ (x : List (List ℕ)). x)
+    (names_outcome known request.use_blacklist c.as_slice.result.now) _ (Err _)
+    c.in_err-names.ensures))
 
 pub returns : goal.returns
 returns g c = λ files err.
     let known = c.args.known.now in
     let request = c.args.request.now in
     next after_names
-    (along (λ names. given (names_outcome known request.use_blacklist names)) _ request.names c.as_slice.ensures
-    (answered (λ (x : List (List ℕ)). x) (names_outcome known request.use_blacklist c.as_slice.result.now) _ (Ok c.in_ok-names.names) c.in_ok-names.ensures))
+    (along (λ names. given (names_outcome known request.use_blacklist names)) _ request.names
+    c.as_slice.ensures
+    (answered (λ (x : List (List ℕ)). x)
+    (names_outcome known request.use_blacklist c.as_slice.result.now) _
+    (Ok c.in_ok-names.names) c.in_ok-names.ensures))
     (c.say_names.ensures files err)

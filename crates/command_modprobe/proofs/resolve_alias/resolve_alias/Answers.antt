@@ -11,7 +11,8 @@ returns-in_err-basis g c = λ err.
     let p = err_from_is_err_and c.from_residual.result c.from_residual.ensures.1 in
     let request = request_of c.args.asked in
     resolves-asked c.args.asked request _ _ _ refl
-    (exits _ _ (prints_names request) p.1 p.2 (c.in_err-basis.ensures.known (g.O.Out.seen c.args.out.now) err))
+    (exits _ _ (prints_names request) p.1 p.2
+    (c.in_err-basis.ensures.known (g.O.Out.seen c.args.out.now) err))
 
 pub returns : goal.returns
 returns g c = λ err.

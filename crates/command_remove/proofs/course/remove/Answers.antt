@@ -10,4 +10,6 @@ returns-in_err-folder g c = λ err.
 
 pub returns : goal.returns
 returns g c = λ err.
-    removes-asked c.args.dry_run c.args.asked c.in_ok-folder.folder c.args.system_map c.region-region.result _ _ _ c.in_ok-folder.ensures c.region-region.ensures (c.remove_over.ensures err)
+    removes-asked c.args.dry_run c.args.asked c.in_ok-folder.folder c.args.system_map
+    c.region-region.result _ _ _ c.in_ok-folder.ensures c.region-region.ensures
+    (c.remove_over.ensures err)

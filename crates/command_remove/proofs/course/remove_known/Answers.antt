@@ -6,7 +6,10 @@ use Rattle.command_remove.proofs.course.remove_known.Goals as goal
 
 pub remove_listed-requires : goal.remove_listed-requires
 remove_listed-requires g c =
-    let h = new-made c.args.system_map c.args.symvers c.args.region c.in_ok-machine.machine (c.in_ok-machine.ensures (g.O.Out.seen c.args.out.now) (g.O.Out.seen c.args.out.now)).comes in
+    let h
+    = new-made c.args.system_map c.args.symvers c.args.region c.in_ok-machine.machine
+    (c.in_ok-machine.ensures (g.O.Out.seen c.args.out.now)
+    (g.O.Out.seen c.args.out.now)).comes in
     (h.0, c.args.region, h.1)
 
 pub returns-in_err-machine : goal.returns-in_err-machine

@@ -13,7 +13,11 @@ use Rattle.command_remove.proofs.listed.take_listed.Goals as goal
 pub loop-left-init : goal.loop-left-init
 loop-left-init g c = record {
   leads = λ out err.
-      subst (λ names. LeadsTo (λ (x : Machine). x) (takes_listed c.args.folder.now c.args.indexes.now c.args.machine c.args.names.now) (world (g.F.Reads.seen c.args.files.now) out err) (takes_listed c.args.folder.now c.args.indexes.now c.args.machine names) (world (g.F.Reads.seen c.args.files.now) out err))
+      subst (λ names. LeadsTo (λ (x : Machine). x)
+      (takes_listed c.args.folder.now c.args.indexes.now c.args.machine c.args.names.now)
+      (world (g.F.Reads.seen c.args.files.now) out err)
+      (takes_listed c.args.folder.now c.args.indexes.now c.args.machine names)
+      (world (g.F.Reads.seen c.args.files.now) out err))
       (sym (take_all (length c.args.names.now) c.args.names.now (omega arith)))
       (leads-start (λ (x : Machine). x) _ _);
   within = omega arith;
@@ -25,8 +29,11 @@ returns-in_err-machine g c = λ out err.
     let folder = c.args.folder.now in
     let indexes = c.args.indexes.now in
     let names = c.args.names.now in
-    leads-oldest (takes_listed_one folder indexes) _ _ _ c.loop-left.machine names c.loop-left.left c.index-names-left.result c.loop-left-test.true c.loop-left.invariant.within c.index-names-left.is (c.loop-left.invariant.leads out err) _ _
-    (exits _ _ (taken_others folder indexes (take (c.loop-left.left - 1) names)) p.1 p.2 (c.in_err-machine.ensures out err))
+    leads-oldest (takes_listed_one folder indexes) _ _ _ c.loop-left.machine names c.loop-left.left
+    c.index-names-left.result c.loop-left-test.true c.loop-left.invariant.within
+    c.index-names-left.is (c.loop-left.invariant.leads out err) _ _
+    (exits _ _ (taken_others folder indexes (take (c.loop-left.left - 1) names)) p.1 p.2
+    (c.in_err-machine.ensures out err))
 
 pub loop-left-preserved : goal.loop-left-preserved
 loop-left-preserved g c =
@@ -35,12 +42,19 @@ loop-left-preserved g c =
     let names = c.args.names.now in
     record {
       leads = λ out err.
-          leads-on (λ (x : Machine). x) _ _ _ _ (takes_listed_one folder indexes) c.loop-left.machine c.index-names-left.result (reverse (take (c.loop-left.left - 1) names)) c.in_ok-machine.machine
-          (leads-oldest (takes_listed_one folder indexes) _ _ _ c.loop-left.machine names c.loop-left.left c.index-names-left.result c.loop-left-test.true c.loop-left.invariant.within c.index-names-left.is (c.loop-left.invariant.leads out err))
+          leads-on (λ (x : Machine). x) _ _ _ _ (takes_listed_one folder indexes)
+          c.loop-left.machine c.index-names-left.result
+          (reverse (take (c.loop-left.left - 1) names)) c.in_ok-machine.machine
+          (leads-oldest (takes_listed_one folder indexes) _ _ _ c.loop-left.machine names
+          c.loop-left.left c.index-names-left.result c.loop-left-test.true
+          c.loop-left.invariant.within c.index-names-left.is
+          (c.loop-left.invariant.leads out err))
           (c.in_ok-machine.ensures out err);
       within = omega (arith, c.loop-left.invariant.within);
     }
 
 pub returns : goal.returns
 returns g c = λ out err.
-    leads-none (takes_listed_one c.args.folder.now c.args.indexes.now) _ _ _ c.loop-left.machine c.args.names.now c.loop-left.left c.loop-left-test.false (c.loop-left.invariant.leads out err)
+    leads-none (takes_listed_one c.args.folder.now c.args.indexes.now) _ _ _ c.loop-left.machine
+    c.args.names.now c.loop-left.left c.loop-left-test.false
+    (c.loop-left.invariant.leads out err)

@@ -9,7 +9,8 @@ use Rattle.command_remove.proofs.listed.take_listed.Given as goal
 -- Whatever loads the newer modules from here loads all from the start.
 abbrev pub invariant-loop-left : goal.invariant-loop-left
 invariant-loop-left g l = record {
-  leads : (out err : OutSeen) → LeadsTo (λ (x : Machine). x) (takes_listed l.folder l.indexes l.fn.machine l.names)
+  leads : (out err : OutSeen)
+      → LeadsTo (λ (x : Machine). x) (takes_listed l.folder l.indexes l.fn.machine l.names)
       (world (g.F.Reads.seen l.fn.files) out err)
       (takes_listed l.folder l.indexes l.machine (take l.left l.names))
       (world (g.F.Reads.seen l.files) out err);

@@ -11,4 +11,5 @@ returns-in_err-found g c = λ out err.
 
 pub returns : goal.returns
 returns g c = λ out err.
-    along (loads_listed_at c.args.folder.now c.args.machine c.args.name.now) _ _ c.in_ok-found.ensures (c.load_listed_at.ensures out err)
+    along (loads_listed_at c.args.folder.now c.args.machine c.args.name.now) _ _
+    c.in_ok-found.ensures (c.load_listed_at.ensures out err)

@@ -10,9 +10,12 @@ returns-then-dry_run c = passes-dry c.args.dry_run c.args.steps.now c.if-dry_run
 
 pub returns-in_ok-name-in-Some : goal.returns-in_ok-name-in-Some
 returns-in_ok-name-in-Some c =
-    subst (λ stop. Answers (λ (x : ⊤). x) (chosen_outcome c.args.dry_run c.args.steps.now) (Err stop)) (sym c.from.ensures)
+    subst
+    (λ stop. Answers (λ (x : ⊤). x) (chosen_outcome c.args.dry_run c.args.steps.now) (Err stop))
+    (sym c.from.ensures)
     (refuses-chosen c.args.dry_run c.args.steps.now c.in_ok-name-in-Some.name c.if-dry_run.false
-    (sym c.first_owner.ensures ∙ ap (option_map (λ (n : Bor (List ℕ)). n.now)) c.in-Some.is ∙ ap Some (sym c.in_ok-name-in-Some.ensures)))
+    (sym c.first_owner.ensures ∙ ap (option_map (λ (n : Bor (List ℕ)). n.now)) c.in-Some.is
+    ∙ ap Some (sym c.in_ok-name-in-Some.ensures)))
 
 pub returns-in-None : goal.returns-in-None
 returns-in-None c =

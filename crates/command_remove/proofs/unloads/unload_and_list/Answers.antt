@@ -13,7 +13,9 @@ returns-in_err-unload_steps g c = λ files err.
 
 pub returns-in_err-text : goal.returns-in_err-text
 returns-in_err-text g c = λ files err.
-    let p = err_from_is_err_and c.from_residual-in_err-text.result c.from_residual-in_err-text.ensures.1 in
+    let p
+    = err_from_is_err_and c.from_residual-in_err-text.result
+    c.from_residual-in_err-text.ensures.1 in
     next after_left (c.in_ok-unload_steps.ensures files err) (wants _ _ _ _ p.1 p.2)
 
 pub returns : goal.returns

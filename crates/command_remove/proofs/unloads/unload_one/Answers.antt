@@ -18,8 +18,14 @@ returns-in_err-push_two-clause-follows g c = λ files err.
 
 pub returns-in_err-say-clause-follows : goal.returns-in_err-say-clause-follows
 returns-in_err-say-clause-follows g c = λ files err.
-    let p = err_from_is_err_and c.from_residual-in_err-say.result c.from_residual-in_err-say.ensures.1 in
-    let line = c.as_bytes.ensures ∙ c.in_ok-push_two.ensures ∙ ap (λ t. t ++ line_of_two (codes "unloaded ") c.step_name-name.result.now) c.new-line.ensures ∙ ap unloaded_line c.step_name-name.ensures in
+    let p
+    = err_from_is_err_and c.from_residual-in_err-say.result c.from_residual-in_err-say.ensures.1
+    in
+    let line
+    = c.as_bytes.ensures ∙ c.in_ok-push_two.ensures
+    ∙ ap (λ t. t ++ line_of_two (codes "unloaded ") c.step_name-name.result.now)
+    c.new-line.ensures
+    ∙ ap unloaded_line c.step_name-name.ensures in
     exits _ _ (one_unloaded c.args.machine.now c.args.step.now) p.1 p.2
     (along says _ (unloaded_line (step_name c.args.step.now)) line (c.in_err-say.ensures files err))
 
@@ -28,9 +34,16 @@ returns-clause-follows g c = λ files err.
     let machine = c.args.machine.now in
     let after = c.unload_below-place.new.machine in
     let name = step_name c.args.step.now in
-    let line = c.as_bytes.ensures ∙ c.in_ok-push_two.ensures ∙ ap (λ t. t ++ line_of_two (codes "unloaded ") c.step_name-name.result.now) c.new-line.ensures ∙ ap unloaded_line c.step_name-name.ensures in
-    let took : unloaded machine name ≡ Ok after = ap (unloaded machine) (sym c.step_name-name.ensures) ∙ c.unload_below-place.ensures.done in
+    let line
+    = c.as_bytes.ensures ∙ c.in_ok-push_two.ensures
+    ∙ ap (λ t. t ++ line_of_two (codes "unloaded ") c.step_name-name.result.now)
+    c.new-line.ensures
+    ∙ ap unloaded_line c.step_name-name.ensures in
+    let took : unloaded machine name ≡ Ok after
+    = ap (unloaded machine) (sym c.step_name-name.ensures)
+    ∙ c.unload_below-place.ensures.done in
     next (one_unloaded machine c.args.step.now)
     (along says _ (unloaded_line name) line (c.in_ok-say.ensures files err))
-    (along (λ (m : Machine). gives m) after (without_named machine name) (removed-is machine name after took)
+    (along (λ (m : Machine). gives m) after (without_named machine name)
+    (removed-is machine name after took)
     (gave (λ (place : ℕ). after) _ c.unload_below-place.result))

@@ -10,11 +10,12 @@ use Rattle.command_remove.specs.Remove.{unloads_one}
 use Rattle.command_remove.specs.Taken.{CanBeTakenOut}
 use Rattle.command_remove.proofs.unloads.unload_steps.Given as goal
 
--- The modules of the steps that are left can be taken out of the machine of this turn, and that leads on to what taking
--- out all of them from the start does, whatever machine is left.
+-- The modules of the steps that are left can be taken out of the machine of this turn, and that
+-- leads on to what taking out all of them from the start does, whatever machine is left.
 abbrev pub invariant-loop-step : goal.invariant-loop-step
 invariant-loop-step g l = record {
-  leads : (files : FilesSeen) (err : OutSeen) (left : Machine) → LeadsTo (λ (done : ⊤). left) (each_from unloads_one l.fn.machine l.steps)
+  leads : (files : FilesSeen) (err : OutSeen) (left : Machine)
+      → LeadsTo (λ (done : ⊤). left) (each_from unloads_one l.fn.machine l.steps)
       (world files (g.O.Out.seen l.fn.out) err)
       (each_from unloads_one l.machine (drop l.step-index l.steps))
       (world files (g.O.Out.seen l.out) err);

@@ -7,8 +7,10 @@ use Rattle.command_remove.proofs.unloads.unload_unless.Goals as goal
 
 pub returns-then-dry_run : goal.returns-then-dry_run
 returns-then-dry_run g c = λ files err.
-    along (λ dry. unloads_unless dry c.args.machine.now c.args.steps.now) _ c.args.dry_run (sym c.if-dry_run.true) (gave (λ (x : ⊤). x) _ tt)
+    along (λ dry. unloads_unless dry c.args.machine.now c.args.steps.now) _ c.args.dry_run
+    (sym c.if-dry_run.true) (gave (λ (x : ⊤). x) _ tt)
 
 pub returns : goal.returns
 returns g c = λ files err.
-    along (λ dry. unloads_unless dry c.args.machine.now c.args.steps.now) _ c.args.dry_run (sym c.if-dry_run.false) (c.unload_and_list.ensures files err)
+    along (λ dry. unloads_unless dry c.args.machine.now c.args.steps.now) _ c.args.dry_run
+    (sym c.if-dry_run.false) (c.unload_and_list.ensures files err)

@@ -17,5 +17,7 @@ pub returns : goal.returns
 returns g c = λ out err.
     let bytes = c.in_ok-bytes.bytes in
     next (nodes_stated c.args.file.now) (c.in_ok-bytes.ensures.follows out err)
-    (answered (λ (x : List Node). x) (stated_outcome (read_of c.args.file.now bytes)) _ c.nodes_in.result
-    (subst (λ text. Answers (λ (x : List Node). x) (stated_outcome (read_of c.args.file.now text)) c.nodes_in.result) c.as_bytes.ensures c.nodes_in.ensures))
+    (answered (λ (x : List Node). x) (stated_outcome (read_of c.args.file.now bytes)) _
+    c.nodes_in.result
+    (subst (λ text. Answers (λ (x : List Node). x) (stated_outcome (read_of c.args.file.now text))
+    c.nodes_in.result) c.as_bytes.ensures c.nodes_in.ensures))

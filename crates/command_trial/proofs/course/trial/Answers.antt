@@ -16,13 +16,18 @@ returns-in_err-asked g c = λ files err.
 
 pub returns-in-Some : goal.returns-in-Some
 returns-in-Some g c = λ files err.
-    subst (λ asked. Follows (λ (x : ⊤). x) (trial_asked_for asked) (world files (g.O.Out.seen c.args.out.now) err) (world files (g.O.Out.seen c.try_made.new.out) err) c.try_made.result)
+    subst (λ asked. Follows (λ (x : ⊤). x) (trial_asked_for asked)
+    (world files (g.O.Out.seen c.args.out.now) err)
+    (world files (g.O.Out.seen c.try_made.new.out) err) c.try_made.result)
     (sym c.in-Some.is ∙ c.in_ok-asked.ensures.request)
     (c.try_made.ensures files err)
 
 pub returns-in-None : goal.returns-in-None
 returns-in-None g c = λ files err.
-    subst (λ asked. Follows (λ (x : ⊤). x) (trial_asked_for asked) (world files (g.O.Out.seen c.args.out.now) err) (world files (g.O.Out.seen c.args.out.now) err) (Err c.from.result))
+    subst (λ asked. Follows (λ (x : ⊤). x) (trial_asked_for asked)
+    (world files (g.O.Out.seen c.args.out.now) err)
+    (world files (g.O.Out.seen c.args.out.now) err) (Err c.from.result))
     (sym c.in-None.is ∙ c.in_ok-asked.ensures.request)
     (answered (λ (x : ⊤). x) (end NotUnderstood) _ (Err c.from.result)
-    (subst (λ stop. Answers (λ (x : ⊤). x) (end NotUnderstood) (Err stop)) (sym c.from.ensures) refl))
+    (subst (λ stop. Answers (λ (x : ⊤). x) (end NotUnderstood) (Err stop)) (sym c.from.ensures)
+    refl))

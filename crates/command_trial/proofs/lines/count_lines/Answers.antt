@@ -7,4 +7,9 @@ use Rattle.command_trial.proofs.lines.count_lines.Goals as goal
 pub returns : goal.returns
 returns c =
     let over : length c.loop-left.left.now ≡ 0 = grind arith in
-    omega (arith, c.loop-left.invariant.0, count-none (λ line. rest_if_any (rest_after c.args.start.now line)) c.loop-left.left.now over)
+    omega (
+      arith,
+      c.loop-left.invariant.0,
+      count-none (λ line. rest_if_any (rest_after c.args.start.now line)) c.loop-left.left.now
+          over,
+    )

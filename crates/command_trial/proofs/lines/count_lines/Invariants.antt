@@ -7,7 +7,8 @@ use Rattle.command_trial.proofs.lines.count_lines.Given as goal
 
 abbrev pub invariant-loop-left : goal.invariant-loop-left
 invariant-loop-left l =
-    (l.count + length (flat_map (λ line. rest_if_any (rest_after l.start line)) (lines_of l.left)) ≡ length (rests_of_lines l.start l.text))
+    (l.count + length (flat_map (λ line. rest_if_any (rest_after l.start line)) (lines_of l.left))
+    ≡ length (rests_of_lines l.start l.text))
     × (l.count + length l.left ≤ length l.text)
 
 abbrev pub decreases-loop-left : goal.decreases-loop-left

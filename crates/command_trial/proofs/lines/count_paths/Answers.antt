@@ -7,10 +7,13 @@ use Rattle.command_trial.proofs.lines.count_paths.Goals as goal
 pub overflow_add-count : goal.overflow_add-count
 overflow_add-count c =
     let line = c.first_line.result.0.now in
-    let on = count-on paths_after_colon c.loop-left.left.now line c.first_line.result.1.now c.first_line.ensures.lines in
+    let on
+    = count-on paths_after_colon c.loop-left.left.now line c.first_line.result.1.now
+    c.first_line.ensures.lines in
     let few = dependencies-few c.args.text.now in
     let added : c.len-in-loop-left.result ≡ length (paths_after_colon line) =
-    c.len-in-loop-left.ensures ∙ ap length c.in_ok-words.ensures ∙ ap (λ after. length (words after)) c.split_at_byte.ensures.after in
+    c.len-in-loop-left.ensures ∙ ap length c.in_ok-words.ensures
+    ∙ ap (λ after. length (words after)) c.split_at_byte.ensures.after in
     grind arith
 
 pub returns : goal.returns

@@ -10,4 +10,6 @@ returns c =
     let over : length c.loop-left.left.now ≡ 0 = grind arith in
     let before = c.loop-left.invariant.0 in
     c.finalize.ensures before c.loop-left.invariant.1
-    ∙ ap sha256 (images-none c.args.files.now.contents (λ line. rest_if_any (rest_after (codes "loaded ") line)) before _ c.loop-left.left.now over c.loop-left.invariant.2)
+    ∙ ap sha256 (images-none c.args.files.now.contents
+    (λ line. rest_if_any (rest_after (codes "loaded ") line)) before _ c.loop-left.left.now over
+    c.loop-left.invariant.2)

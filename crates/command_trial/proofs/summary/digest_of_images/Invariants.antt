@@ -10,7 +10,11 @@ use Rattle.command_trial.proofs.summary.digest_of_images.Given as goal
 abbrev pub invariant-loop-left : goal.invariant-loop-left
 invariant-loop-left l =
     (before : List ℕ) × Holds256 l.hasher before
-    × (before ++ images_of l.files.contents (flat_map (λ line. rest_if_any (rest_after (codes "loaded ") line)) (lines_of l.left)) ≡ images_of l.files.contents (loaded l.output))
+    × (before
+    ++ images_of l.files.contents
+    (flat_map (λ line. rest_if_any (rest_after (codes "loaded ") line))
+    (lines_of l.left))
+    ≡ images_of l.files.contents (loaded l.output))
 
 abbrev pub decreases-loop-left : goal.decreases-loop-left
 decreases-loop-left l = length l.left

@@ -5,4 +5,6 @@ use Rattle.command_trial.proofs.words.module_name.Goals as goal
 
 pub returns : goal.returns
 returns c =
-    subst (λ text. IfOk c.from_text.result (λ word. word ≡ text)) (c.as_str.ensures.value ∙ c.in_ok-name.ensures.ok ∙ digits-decimal c.args.number) c.from_text.ensures
+    subst (λ text. IfOk c.from_text.result (λ word. word ≡ text))
+    (c.as_str.ensures.value ∙ c.in_ok-name.ensures.ok ∙ digits-decimal c.args.number)
+    c.from_text.ensures

@@ -10,4 +10,6 @@ returns-clause-kept g c =
     let has = g.K.KnownNames.has c.args.known.now in
     let path = c.args.path.now in
     c.put.ensures (is_good has) c.requires
-    (and_from (is_line_path path) (has (module_name path)) (sym c.is_line_path.ensures ∙ c.if-not-is_line_path.false) (sym c.in_ok-is_known.ensures ∙ c.if-not-branch.false))
+    (and_from (is_line_path path) (has (module_name path))
+    (sym c.is_line_path.ensures ∙ c.if-not-is_line_path.false)
+    (sym c.in_ok-is_known.ensures ∙ c.if-not-branch.false))

@@ -9,7 +9,9 @@ pub returns-then-not-begins_line-clause-good : goal.returns-then-not-begins_line
 returns-then-not-begins_line-clause-good g c =
     let has = g.K.KnownNames.has c.args.known.now in
     let line = c.args.line.now in
-    sym (line-begins has c.args.name.now line ∙ ap (λ b. b && are_good_needs has (after_first (λ b. b == 58) line)) (sym c.begins_line.ensures ∙ c.if-not-begins_line.true))
+    sym (line-begins has c.args.name.now line
+    ∙ ap (λ b. b && are_good_needs has (after_first (λ b. b == 58) line))
+    (sym c.begins_line.ensures ∙ c.if-not-begins_line.true))
 
 pub returns-clause-good : goal.returns-clause-good
 returns-clause-good g c =
@@ -17,5 +19,7 @@ returns-clause-good g c =
     let line = c.args.line.now in
     subst (λ b. IfOk c.are_found_good.result (λ good. good ≡ b))
     (ap (are_good_needs has) c.split_at_byte.ensures.after
-    ∙ sym (line-begins has c.args.name.now line ∙ ap (λ b. b && are_good_needs has (after_first (λ b. b == 58) line)) (sym c.begins_line.ensures ∙ c.if-not-begins_line.false)))
+    ∙ sym (line-begins has c.args.name.now line
+    ∙ ap (λ b. b && are_good_needs has (after_first (λ b. b == 58) line))
+    (sym c.begins_line.ensures ∙ c.if-not-begins_line.false)))
     c.are_found_good.ensures.good

@@ -13,7 +13,8 @@ loop-low-preserved-in-Less c =
     let name = c.args.name.now in
     let low = c.loop-low.low in
     let high = c.loop-low.high in
-    part-up c.args.lines.now c.requires name low high (low + (high - low) / 2) c.loop-low.invariant (omega arith) (omega (arith, c.loop-low-test.true))
+    part-up c.args.lines.now c.requires name low high (low + (high - low) / 2) c.loop-low.invariant
+    (omega arith) (omega (arith, c.loop-low-test.true))
     (ap (λ n. R n name) (sym c.name.ensures) ∙ sym c.cmp.ensures ∙ c.in-Less.is)
 
 pub loop-low-preserved : goal.loop-low-preserved
@@ -21,7 +22,8 @@ loop-low-preserved c =
     let name = c.args.name.now in
     let low = c.loop-low.low in
     let high = c.loop-low.high in
-    part-down c.args.lines.now c.requires name low high (low + (high - low) / 2) c.loop-low.invariant (omega arith) (omega (arith, c.loop-low-test.true))
+    part-down c.args.lines.now c.requires name low high (low + (high - low) / 2)
+    c.loop-low.invariant (omega arith) (omega (arith, c.loop-low-test.true))
     (ap (λ n. R n name) (sym c.name.ensures) ∙ sym c.cmp.ensures ∙ c.in-Greater.is)
 
 pub returns-in-Equal : goal.returns-in-Equal
@@ -31,13 +33,17 @@ returns-in-Equal c =
     let low = c.loop-low.low in
     let high = c.loop-low.high in
     let middle = low + (high - low) / 2 in
-    let under : low + (high - low) / 2 < length ms = omega (arith, c.loop-low-test.true, c.loop-low.invariant.within) in (
+    let under : low + (high - low) / 2 < length ms
+    = omega (arith, c.loop-low-test.true, c.loop-low.invariant.within) in (
       middle,
       under,
-      equal_keys (name_at ms middle) name (ap is_eq (ap (λ n. R n name) (sym c.name.ensures) ∙ sym c.cmp.ensures ∙ c.in-Equal.is)),
-      λ other. ap (λ (m : KeyValue). m.1.0) (get_or_default ms middle other ([], (0, [])) under) ∙ sym c.number.ensures,
+      equal_keys (name_at ms middle) name
+          (ap is_eq (ap (λ n. R n name) (sym c.name.ensures) ∙ sym c.cmp.ensures ∙ c.in-Equal.is)),
+      λ other. ap (λ (m : KeyValue). m.1.0) (get_or_default ms middle other ([], (0, [])) under)
+          ∙ sym c.number.ensures,
     )
 
 pub returns : goal.returns
 returns c =
-    parted-none c.args.lines.now c.requires c.args.name.now c.loop-low.low c.loop-low.high c.loop-low.invariant (omega (arith, c.loop-low-test.false))
+    parted-none c.args.lines.now c.requires c.args.name.now c.loop-low.low c.loop-low.high
+    c.loop-low.invariant (omega (arith, c.loop-low-test.false))

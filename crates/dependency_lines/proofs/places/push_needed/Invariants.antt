@@ -7,7 +7,8 @@ use Rattle.dependency_lines.proofs.places.push_needed.Given as goal
 
 abbrev pub invariant-loop-after : goal.invariant-loop-after
 invariant-loop-after l =
-    l.places.items ++ places_of l.modules (map module_name (needed_paths (slice_split (λ b. b == 32) l.rest)))
+    l.places.items
+    ++ places_of l.modules (map module_name (needed_paths (slice_split (λ b. b == 32) l.rest)))
     ≡ l.fn.places.items ++ places_of l.modules (needed_names l.fn.line)
 
 abbrev pub decreases-loop-after : goal.decreases-loop-after

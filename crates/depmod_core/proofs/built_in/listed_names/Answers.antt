@@ -9,4 +9,6 @@ use Rattle.depmod_core.proofs.built_in.listed_names.Goals as goal
 pub returns : goal.returns
 returns c =
     let none : lines_of c.loop-rest.rest.now ≡ [] = no-lines c.loop-rest.rest.now (grind arith) in
-    sym (append-nil c.loop-rest.names) ∙ ap (λ lines. c.loop-rest.names ++ filter is_graphic (map module_name lines)) (sym none) ∙ c.loop-rest.invariant
+    sym (append-nil c.loop-rest.names)
+    ∙ ap (λ lines. c.loop-rest.names ++ filter is_graphic (map module_name lines)) (sym none)
+    ∙ c.loop-rest.invariant

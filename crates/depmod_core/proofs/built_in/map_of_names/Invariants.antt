@@ -3,4 +3,5 @@ use Rattle.depmod_core.specs.Maps.{map_of}
 use Rattle.depmod_core.proofs.built_in.map_of_names.Given as goal
 
 abbrev pub invariant-loop-place : goal.invariant-loop-place
-invariant-loop-place l = l.map ≡ map_of (map (λ (name : List ℕ). (name, (0, []))) (take l.place l.names))
+invariant-loop-place l =
+    l.map ≡ map_of (map (λ (name : List ℕ). (name, (0, []))) (take l.place l.names))

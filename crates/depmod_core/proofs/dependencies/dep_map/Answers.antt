@@ -19,14 +19,22 @@ use Rattle.depmod_core.proofs.dependencies.dep_map.Goals as goal
 pub add-requires-clause-key : goal.add-requires-clause-key
 add-requires-clause-key c =
     let f : Facts = c.index-modules-place.result in
-    let good : IsTreeModule f = tree-module c.args.tree.now c.as_slice-modules.result.now c.loop-place.place f c.as_slice-modules.ensures c.loop-place-test.true c.index-modules-place.is c.requires.tree.modules in
+    let good : IsTreeModule f
+    = tree-module c.args.tree.now c.as_slice-modules.result.now c.loop-place.place f
+    c.as_slice-modules.ensures c.loop-place-test.true c.index-modules-place.is
+    c.requires.tree.modules in
     subst IsKey (sym c.as_bytes.ensures) (graphic-key f.name good.name)
 
 pub add-requires-clause-text : goal.add-requires-clause-text
 add-requires-clause-text c =
     let f : Facts = c.index-modules-place.result in
-    let good : IsTreeModule f = tree-module c.args.tree.now c.as_slice-modules.result.now c.loop-place.place f c.as_slice-modules.ensures c.loop-place-test.true c.index-modules-place.is c.requires.tree.modules in
-    subst IsText (sym (c.as_bytes-in-loop-place.ensures ∙ c.in_ok-line.ensures)) (line-text c.args.tree.now f (places_of c.closure-order.result.now) c.requires.tree.modules good)
+    let good : IsTreeModule f
+    = tree-module c.args.tree.now c.as_slice-modules.result.now c.loop-place.place f
+    c.as_slice-modules.ensures c.loop-place-test.true c.index-modules-place.is
+    c.requires.tree.modules in
+    subst IsText (sym (c.as_bytes-in-loop-place.ensures ∙ c.in_ok-line.ensures))
+    (line-text c.args.tree.now f (places_of c.closure-order.result.now) c.requires.tree.modules
+    good)
 
 pub loop-place-preserved : goal.loop-place-preserved
 loop-place-preserved c =
@@ -36,12 +44,19 @@ loop-place-preserved c =
     let f : Facts = c.index-modules-place.result in
     let places = places_of c.closure-order.result.now in
     let m : Dependent = (f, places) in
-    let at : slice_get tree i ≡ Some f = slice_get_read tree (length c.as_slice-modules.result.now) i f (ap length c.as_slice-modules.ensures) c.loop-place-test.true (c.index-modules-place.is ∙ ap (λ l. get_or l i f) c.as_slice-modules.ensures) in
-    value-found (dep_value tree) empty c.loop-place.map c.add.new.self (enumerate_from 0 (zip tree closures)) i (i, m)
-    (placed (zip tree closures) i m (zipped tree closures i f places at c.closure-order.ensures)) c.loop-place.invariant
+    let at : slice_get tree i ≡ Some f
+    = slice_get_read tree (length c.as_slice-modules.result.now) i f
+    (ap length c.as_slice-modules.ensures) c.loop-place-test.true
+    (c.index-modules-place.is ∙ ap (λ l. get_or l i f) c.as_slice-modules.ensures) in
+    value-found (dep_value tree) empty c.loop-place.map c.add.new.self
+    (enumerate_from 0 (zip tree closures)) i (i, m)
+    (placed (zip tree closures) i m (zipped tree closures i f places at c.closure-order.ensures))
+    c.loop-place.invariant
     (c.in_ok-add.ensures.ok
-    ∙ ap (λ key. with_value c.loop-place.map key (i, c.as_bytes-in-loop-place.result.now)) c.as_bytes.ensures
-    ∙ ap (λ text. with_value c.loop-place.map f.name (i, text)) (c.as_bytes-in-loop-place.ensures ∙ c.in_ok-line.ensures))
+    ∙ ap (λ key. with_value c.loop-place.map key (i, c.as_bytes-in-loop-place.result.now))
+    c.as_bytes.ensures
+    ∙ ap (λ text. with_value c.loop-place.map f.name (i, text))
+    (c.as_bytes-in-loop-place.ensures ∙ c.in_ok-line.ensures))
 
 pub returns : goal.returns
 unfolding dep_map
@@ -50,4 +65,12 @@ returns c =
     let closures = closures_by c.args.relation.now in
     let all = enumerate_from 0 (zip tree closures) in
     c.loop-place.invariant
-    ∙ ap (λ ms. map_of (map (dep_value tree) ms)) (take_all c.loop-place.place all (omega (arith, length-enumerate_from 0 (zip tree closures), length-zip tree closures, c.loop-place-test.false, ap length c.as_slice-modules.ensures)))
+    ∙ ap (λ ms. map_of (map (dep_value tree) ms))
+    (take_all c.loop-place.place all
+    (omega (
+      arith,
+      length-enumerate_from 0 (zip tree closures),
+      length-zip tree closures,
+      c.loop-place-test.false,
+      ap length c.as_slice-modules.ensures,
+    )))

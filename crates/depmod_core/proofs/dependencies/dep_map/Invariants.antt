@@ -6,4 +6,7 @@ use Rattle.depmod_core.specs.Dependencies.{dep_value}
 use Rattle.depmod_core.proofs.dependencies.dep_map.Given as goal
 
 abbrev pub invariant-loop-place : goal.invariant-loop-place
-invariant-loop-place l = l.map ≡ map_of (map (dep_value l.tree) (take l.place (enumerate_from 0 (zip l.tree (closures_by l.relation)))))
+invariant-loop-place l =
+    l.map
+    ≡ map_of (map (dep_value l.tree)
+    (take l.place (enumerate_from 0 (zip l.tree (closures_by l.relation)))))

@@ -22,8 +22,12 @@ loop-place-preserved c =
     let i = c.loop-place.place in
     let f : Facts = c.index-modules-place.result in
     let places = places_of c.closure-order.result.now in
-    let at : slice_get tree i ≡ Some f = slice_get_read tree (length c.as_slice-modules.result.now) i f (ap length c.as_slice-modules.ensures) c.loop-place-test.true (c.index-modules-place.is ∙ ap (λ l. get_or l i f) c.as_slice-modules.ensures) in
-    put-found (λ (m : Dependent). ended (line_of tree m)) c.args.text.now c.loop-place.text c.put.new.self (zip tree closures) i (f, places)
+    let at : slice_get tree i ≡ Some f
+    = slice_get_read tree (length c.as_slice-modules.result.now) i f
+    (ap length c.as_slice-modules.ensures) c.loop-place-test.true
+    (c.index-modules-place.is ∙ ap (λ l. get_or l i f) c.as_slice-modules.ensures) in
+    put-found (λ (m : Dependent). ended (line_of tree m)) c.args.text.now c.loop-place.text
+    c.put.new.self (zip tree closures) i (f, places)
     (zipped tree closures i f places at c.closure-order.ensures) c.loop-place.invariant
     (c.in_ok-put.ensures
     ∙ ap (λ t. with_piece t (10 ∷ [])) c.in_ok-put_line.ensures
@@ -34,6 +38,12 @@ unfolding dep_text
 returns c =
     let tree = c.args.tree.now in
     let closures = closures_by c.args.relation.now in
-    put-whole (λ (m : Dependent). ended (line_of tree m)) c.args.text.now c.loop-place.text (zip tree closures) c.loop-place.place
-    (omega (arith, length-zip tree closures, c.loop-place-test.false, ap length c.as_slice-modules.ensures)) c.loop-place.invariant
+    put-whole (λ (m : Dependent). ended (line_of tree m)) c.args.text.now c.loop-place.text
+    (zip tree closures) c.loop-place.place
+    (omega (
+      arith,
+      length-zip tree closures,
+      c.loop-place-test.false,
+      ap length c.as_slice-modules.ensures,
+    )) c.loop-place.invariant
     ∙ ap (with_piece c.args.text.now) (sym (flat_map-map ended (line_of tree) (zip tree closures)))

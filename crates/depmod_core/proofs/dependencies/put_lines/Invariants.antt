@@ -7,4 +7,8 @@ use Rattle.depmod_core.specs.Dependencies.{line_of}
 use Rattle.depmod_core.proofs.dependencies.put_lines.Given as goal
 
 abbrev pub invariant-loop-place : goal.invariant-loop-place
-invariant-loop-place l = l.text ≡ with_piece l.initial.text (flat_map (λ m. ended (line_of l.tree m)) (take l.place (zip l.tree (closures_by l.relation))))
+invariant-loop-place l =
+    l.text
+    ≡ with_piece l.initial.text
+    (flat_map (λ m. ended (line_of l.tree m))
+    (take l.place (zip l.tree (closures_by l.relation))))

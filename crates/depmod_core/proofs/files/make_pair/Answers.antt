@@ -10,8 +10,13 @@ returns-in_err-text-clause-err c =
 
 pub returns-in_err-index-clause-err : goal.returns-in_err-index-clause-err
 returns-in_err-index-clause-err c =
-    let p = err_from_is_err_and c.from_residual-in_err-index.result c.from_residual-in_err-index.ensures.1 in
-    rw (p.1, p.2) (right (λ is. passed _ _ c.in_ok-text.ensures.passed (failed _ _ is)) c.in_err-index.ensures.err)
+    let p
+    = err_from_is_err_and c.from_residual-in_err-index.result
+    c.from_residual-in_err-index.ensures.1 in
+    rw (p.1, p.2)
+    (right (λ is. passed _ _ c.in_ok-text.ensures.passed (failed _ _ is))
+    c.in_err-index.ensures.err)
 
 pub returns-clause-passed : goal.returns-clause-passed
-returns-clause-passed c = passed _ _ c.in_ok-text.ensures.passed (passed _ _ c.in_ok-index.ensures.passed refl)
+returns-clause-passed c =
+    passed _ _ c.in_ok-text.ensures.passed (passed _ _ c.in_ok-index.ensures.passed refl)

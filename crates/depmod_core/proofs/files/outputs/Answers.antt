@@ -6,7 +6,8 @@ use Rattle.unmet_file.specs.Unmet.{file_text, unmet_of}
 use Rattle.provider_rel.specs.Faces.{modules_of}
 use Rattle.provider_rel.specs.Seen.{IsRelation, closures_by, obstacles_by}
 use Rattle.depmod_core.specs.declared.file.OutputFile.{OutputFile}
-use Rattle.depmod_core.specs.declared.file.OutputFile.TheVariants.{DepBin, AliasBin, SymbolsBin, BuiltinBin}
+use Rattle.depmod_core.specs.declared.file.OutputFile.TheVariants.{DepBin, AliasBin, SymbolsBin}
+use Rattle.depmod_core.specs.declared.file.OutputFile.TheVariants.{BuiltinBin}
 use Rattle.depmod_core.specs.declared.fault.OutputFault.{OutputFault}
 use Rattle.depmod_core.specs.declared.fault.OutputFault.TheVariants.{Memory}
 use Rattle.depmod_core.specs.declared.files.OutputFiles.{OutputFiles}
@@ -24,8 +25,10 @@ returns-clause-ok c =
     let builtin = c.args.builtin.now in
     let by = files_by tree (closures_by relation) (obstacles_by relation) builtin in
     both-on c.make_all.result (λ made. made ≡ by) (output_fault by ≡ None)
-    (λ made. (kernel : Kernel) → IsRelation (modules_of tree) kernel relation → outputs_of tree kernel builtin ≡ Ok made)
-    (λ made is none. made-all tree relation builtin made none is) c.make_all.ensures.ok c.make_all.ensures.passed
+    (λ made. (kernel : Kernel) → IsRelation (modules_of tree) kernel relation
+    → outputs_of tree kernel builtin ≡ Ok made)
+    (λ made is none. made-all tree relation builtin made none is) c.make_all.ensures.ok
+    c.make_all.ensures.passed
 
 pub returns-clause-err : goal.returns-clause-err
 returns-clause-err c =
@@ -35,8 +38,11 @@ returns-clause-err c =
     let by = files_by tree (closures_by relation) (obstacles_by relation) builtin in
     IfErr-weaker c.make_all.result
     (λ fault. (fault ≡ Memory) ⊎ (output_fault by ≡ Some fault))
-    (λ fault. (fault ≡ Memory) ⊎ ((kernel : Kernel) → IsRelation (modules_of tree) kernel relation → outputs_of tree kernel builtin ≡ Err fault))
-    (λ fault. refused tree relation builtin fault (output_fault by ≡ Some fault) (λ is. is)) c.make_all.ensures.err
+    (λ fault. (fault ≡ Memory)
+    ⊎ ((kernel : Kernel) → IsRelation (modules_of tree) kernel relation
+    → outputs_of tree kernel builtin ≡ Err fault))
+    (λ fault. refused tree relation builtin fault (output_fault by ≡ Some fault) (λ is. is))
+    c.make_all.ensures.err
 
 pub returns-clause-decode : goal.returns-clause-decode
 unfolding files_by
@@ -48,12 +54,16 @@ returns-clause-decode c =
     both c.make_all.result
     (λ made. made ≡ files_by tree closures (obstacles_by relation) builtin)
     (λ made. (file : OutputFile) → Stands tree closures builtin file (content made file))
-    (λ made. (kernel : Kernel) → IsRelation (modules_of tree) kernel relation → StandFor tree kernel builtin made)
+    (λ made. (kernel : Kernel) → IsRelation (modules_of tree) kernel relation
+    → StandFor tree kernel builtin made)
     (λ made is stands kernel over. record {
       dep = subst (λ all. Holds made.dep_bin (dep_map tree all)) over.closures (stands DepBin);
       alias = stands AliasBin;
       symbols = stands SymbolsBin;
       built_in = stands BuiltinBin;
-      lines = λ path. ap (λ (files : OutputFiles). unmet_of path files.unmet) is ∙ ap (λ lines. unmet_of path (file_text lines)) over.obstacles ∙ unmet-back tree kernel c.requires.tree path;
+      lines
+          = λ path. ap (λ (files : OutputFiles). unmet_of path files.unmet) is
+          ∙ ap (λ lines. unmet_of path (file_text lines)) over.obstacles
+          ∙ unmet-back tree kernel c.requires.tree path;
     })
     c.make_all.ensures.ok c.make_all.ensures.stands

@@ -19,14 +19,21 @@ loop-stated-preserved c =
     let h : List ℕ × Option (List ℕ) → Option KeyValue = λ s. option_map value s.1 in
     let before = c.loop-stated.key_map in
     let stated = c.stated-item.result in
-    let key : c.stated.inside.key ≡ stated.1 = ap (λ (s : List ℕ × Option (List ℕ)). s.1) c.stated.view_is in
-    let next = value-kept h c.args.key_map.now before c.match-stated.key_map c.args.all.now c.loop-stated.stated-index stated c.loop-stated-test.true c.stated-item.is c.loop-stated.invariant in
+    let key : c.stated.inside.key ≡ stated.1
+    = ap (λ (s : List ℕ × Option (List ℕ)). s.1) c.stated.view_is in
+    let next
+    = value-kept h c.args.key_map.now before c.match-stated.key_map c.args.all.now
+    c.loop-stated.stated-index stated c.loop-stated-test.true c.stated-item.is
+    c.loop-stated.invariant in
     elim c.match-stated.branch [
       | in-Some+in_ok-add w ↦
           next (
           w.key_map-is ∙ w.in_ok-add.ensures.ok
           ∙ ap (λ key. with_value before key (place, name)) w.as_bytes.ensures
-          ∙ ap (λ o. with_values before (cons_option (option_map value o) [])) (sym w.in-Some.is ∙ key))
+          ∙ ap (λ o. with_values before (cons_option (option_map value o) []))
+          (sym w.in-Some.is ∙ key))
       | in_default w ↦
-          next (w.key_map-is ∙ ap (λ o. with_values before (cons_option (option_map value o) [])) (sym w.in_default.is ∙ key))
+          next (w.key_map-is
+          ∙ ap (λ o. with_values before (cons_option (option_map value o) []))
+          (sym w.in_default.is ∙ key))
     ]

@@ -5,4 +5,6 @@ use Rattle.depmod_core.specs.Kinds.{statement}
 use Rattle.depmod_core.proofs.stated.aliases.Given as goal
 
 abbrev pub invariant-loop-alias : goal.invariant-loop-alias
-invariant-loop-alias l = l.usable.items ≡ map (statement Alias) (filter is_usable_alias (take l.alias-index l.facts.aliases))
+invariant-loop-alias l =
+    l.usable.items
+    ≡ map (statement Alias) (filter is_usable_alias (take l.alias-index l.facts.aliases))

@@ -5,5 +5,7 @@ use Rattle.depmod_core.proofs.stated.put_line.Goals as goal
 
 pub returns-in-Symbol : goal.returns-in-Symbol
 returns-in-Symbol c =
-    subst (λ bytes. OnOk c.put_all-in-Symbol.result (c.put_all-in-Symbol.new.self ≡ with_piece c.args.text.now bytes))
-    (symbol-line c.args.kind c.args.stated.now c.args.name.now c.in-Symbol.is) c.put_all-in-Symbol.ensures
+    subst (λ bytes. OnOk c.put_all-in-Symbol.result
+    (c.put_all-in-Symbol.new.self ≡ with_piece c.args.text.now bytes))
+    (symbol-line c.args.kind c.args.stated.now c.args.name.now c.in-Symbol.is)
+    c.put_all-in-Symbol.ensures

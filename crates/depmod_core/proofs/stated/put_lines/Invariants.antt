@@ -5,4 +5,8 @@ use Rattle.depmod_core.specs.Text.{with_piece}
 use Rattle.depmod_core.proofs.stated.put_lines.Given as goal
 
 abbrev pub invariant-loop-stated : goal.invariant-loop-stated
-invariant-loop-stated l = l.text ≡ with_piece l.initial.text (flat_map (λ stated. ended (line_of l.kind l.name stated.0)) (take l.stated-index l.all))
+invariant-loop-stated l =
+    l.text
+    ≡ with_piece l.initial.text
+    (flat_map (λ stated. ended (line_of l.kind l.name stated.0))
+    (take l.stated-index l.all))

@@ -16,13 +16,19 @@ loop-place-preserved c =
     let tree = c.args.tree.now in
     let i = c.loop-place.place in
     let f : Facts = c.index-modules-place.result in
-    let within : i < length tree = omega (arith, c.loop-place-test.true, ap length c.as_slice-modules.ensures) in
+    let within : i < length tree
+    = omega (arith, c.loop-place-test.true, ap length c.as_slice-modules.ensures) in
     let at = c.index-modules-place.is ∙ ap (λ l. get_or l i f) c.as_slice-modules.ensures in
-    put-next (λ (facts : Facts). lines_text (lines_by kind facts)) c.put_all.new.self c.loop-place.text c.put_lines.new.text tree i f
+    put-next (λ (facts : Facts). lines_text (lines_by kind facts)) c.put_all.new.self
+    c.loop-place.text c.put_lines.new.text tree i f
     within at c.loop-place.invariant
     (c.in_ok-put_lines.ensures
     ∙ ap (λ lines. with_piece c.loop-place.text (lines_text lines))
-    (lines-seen kind f _ _ (c.as_bytes-name.ensures ∙ ap (λ (m : Facts). m.name) (sym c.index-modules-place.is)) (c.deref.ensures.value ∙ stated-at kind tree c.args.lists.now i c.index-lists-place.result f c.requires within c.index-lists-place.is at)))
+    (lines-seen kind f _ _
+    (c.as_bytes-name.ensures ∙ ap (λ (m : Facts). m.name) (sym c.index-modules-place.is))
+    (c.deref.ensures.value
+    ∙ stated-at kind tree c.args.lists.now i c.index-lists-place.result f c.requires
+    within c.index-lists-place.is at)))
 
 pub returns : goal.returns
 returns c =
@@ -30,7 +36,12 @@ returns c =
     let tree = c.args.tree.now in
     let lines = λ (facts : Facts). lines_text (lines_by kind facts) in
     put-whole lines c.put_all.new.self c.loop-place.text tree c.loop-place.place
-    (omega (arith, c.loop-place-test.false, ap length c.as_slice-modules.ensures)) c.loop-place.invariant
-    ∙ ap (λ t. with_piece t (flat_map lines tree)) (c.in_ok-put_all.ensures ∙ ap (λ text. with_piece c.args.text.now (text ++ 10 ∷ [])) c.heading.ensures)
+    (omega (arith, c.loop-place-test.false, ap length c.as_slice-modules.ensures))
+    c.loop-place.invariant
+    ∙ ap (λ t. with_piece t (flat_map lines tree))
+    (c.in_ok-put_all.ensures
+    ∙ ap (λ text. with_piece c.args.text.now (text ++ 10 ∷ [])) c.heading.ensures)
     ∙ with_piece-append c.args.text.now (ended (heading kind)) (flat_map lines tree)
-    ∙ ap (with_piece c.args.text.now) (ap (λ bytes. ended (heading kind) ++ bytes) (text-of-lists (lines_by kind) tree) ∙ kind-text kind tree)
+    ∙ ap (with_piece c.args.text.now)
+    (ap (λ bytes. ended (heading kind) ++ bytes) (text-of-lists (lines_by kind) tree)
+    ∙ kind-text kind tree)

@@ -5,4 +5,6 @@ use Rattle.depmod_core.specs.Kinds.{statement}
 use Rattle.depmod_core.proofs.stated.softdeps.Given as goal
 
 abbrev pub invariant-loop-text : goal.invariant-loop-text
-invariant-loop-text l = l.usable.items ≡ map (statement Softdep) (filter is_usable_softdep (take l.text-index l.facts.softdeps))
+invariant-loop-text l =
+    l.usable.items
+    ≡ map (statement Softdep) (filter is_usable_softdep (take l.text-index l.facts.softdeps))

@@ -5,4 +5,5 @@ use Rattle.depmod_core.specs.Kinds.{values_by}
 use Rattle.depmod_core.proofs.stated.stated_map.Given as goal
 
 abbrev pub invariant-loop-place : goal.invariant-loop-place
-invariant-loop-place l = l.map ≡ map_of (flat_map (values_by l.fn.kind) (take l.place (enumerate_from 0 l.tree)))
+invariant-loop-place l =
+    l.map ≡ map_of (flat_map (values_by l.fn.kind) (take l.place (enumerate_from 0 l.tree)))

@@ -10,5 +10,7 @@ pub returns : goal.returns
 returns c =
     let exports = c.args.facts.now.exports in
     c.loop-export.invariant
-    ∙ ap (map (λ (e : Export). statement Symbol e.name)) (take_all c.loop-export.export-index exports (omega (arith, c.loop-export-test.false, ap length c.as_slice-export-items.ensures)))
+    ∙ ap (map (λ (e : Export). statement Symbol e.name))
+    (take_all c.loop-export.export-index exports
+    (omega (arith, c.loop-export-test.false, ap length c.as_slice-export-items.ensures)))
     ∙ sym (map-map (statement Symbol) (λ (e : Export). e.name) exports)

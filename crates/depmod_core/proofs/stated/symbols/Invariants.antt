@@ -5,4 +5,6 @@ use Rattle.depmod_core.specs.Kinds.{statement}
 use Rattle.depmod_core.proofs.stated.symbols.Given as goal
 
 abbrev pub invariant-loop-export : goal.invariant-loop-export
-invariant-loop-export l = l.names.items ≡ map (λ (e : Export). statement Symbol e.name) (take l.export-index l.facts.exports)
+invariant-loop-export l =
+    l.names.items
+    ≡ map (λ (e : Export). statement Symbol e.name) (take l.export-index l.facts.exports)

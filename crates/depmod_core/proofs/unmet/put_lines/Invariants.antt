@@ -5,4 +5,7 @@ use Rattle.depmod_core.specs.Text.{with_piece}
 use Rattle.depmod_core.proofs.unmet.put_lines.Given as goal
 
 abbrev pub invariant-loop-line : goal.invariant-loop-line
-invariant-loop-line l = l.text ≡ with_piece l.initial.text (flat_map (λ line. ended (line_text line)) (take l.line-index l.lines))
+invariant-loop-line l =
+    l.text
+    ≡ with_piece l.initial.text
+    (flat_map (λ line. ended (line_text line)) (take l.line-index l.lines))

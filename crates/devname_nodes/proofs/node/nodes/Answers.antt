@@ -1,4 +1,5 @@
-use Rattle.std.proofs.Common.{◌≡◌, ℕ, ◌<◌, ◌+◌, ◌++◌, ◌∷◌, [], List, Option, Some, None, length, take, get_or, sym, ap, ◌∙◌, append-nil}
+use Rattle.std.proofs.Common.{◌≡◌, ℕ, ◌<◌, ◌+◌, ◌++◌, ◌∷◌, [], List, Option, Some, None, length}
+use Rattle.std.proofs.Common.{take, get_or, sym, ap, ◌∙◌, append-nil}
 use Rattle.std.specs.List.{filter_map, cons_option}
 use Rattle.std.proofs.lemmas.List.{take_more}
 use Rattle.std.proofs.lemmas.List.Elements.{filter_map-append}
@@ -9,7 +10,9 @@ use Rattle.devname_nodes.proofs.node.nodes.Goals as goal
 use Rattle.devname_nodes.proofs.node.nodes.Goals.{in-Some+in_ok-push, in_default}
 
 -- the nodes of one module more
-node-more : (tree : List Facts) (i : ℕ) (f : Facts) (o : Option Node) → i < length tree → f ≡ get_or tree i f → o ≡ node_of f → filter_map node_of (take (i + 1) tree) ≡ filter_map node_of (take i tree) ++ cons_option o []
+node-more : (tree : List Facts) (i : ℕ) (f : Facts) (o : Option Node) → i < length tree
+    → f ≡ get_or tree i f → o ≡ node_of f
+    → filter_map node_of (take (i + 1) tree) ≡ filter_map node_of (take i tree) ++ cons_option o []
 node-more tree i f o inside at is =
     ap (filter_map node_of) (take_more tree i f inside)
     ∙ filter_map-append node_of (take i tree) (get_or tree i f ∷ [])
@@ -24,12 +27,15 @@ loop-facts-preserved c =
     elim c.match-made.branch [
       | in-Some+in_ok-push w ↦
           w.list-is ∙ w.in_ok-push.ensures.ok
-          ∙ ap (λ l. l ++ w.in-Some.node ∷ []) (c.loop-facts.invariant ∙ ap (λ t. filter_map node_of (take i t)) (sym same))
-          ∙ sym (node-more items i c.facts-item.result (Some w.in-Some.node) c.loop-facts-test.true c.facts-item.is (sym w.in-Some.is ∙ c.in_ok-made.ensures))
+          ∙ ap (λ l. l ++ w.in-Some.node ∷ [])
+          (c.loop-facts.invariant ∙ ap (λ t. filter_map node_of (take i t)) (sym same))
+          ∙ sym (node-more items i c.facts-item.result (Some w.in-Some.node) c.loop-facts-test.true
+          c.facts-item.is (sym w.in-Some.is ∙ c.in_ok-made.ensures))
           ∙ ap (λ t. filter_map node_of (take (i + 1) t)) same
       | in_default w ↦
           w.list-is ∙ c.loop-facts.invariant ∙ ap (λ t. filter_map node_of (take i t)) (sym same)
           ∙ sym (append-nil (filter_map node_of (take i items)))
-          ∙ sym (node-more items i c.facts-item.result None c.loop-facts-test.true c.facts-item.is (sym w.in_default.is ∙ c.in_ok-made.ensures))
+          ∙ sym (node-more items i c.facts-item.result None c.loop-facts-test.true c.facts-item.is
+          (sym w.in_default.is ∙ c.in_ok-made.ensures))
           ∙ ap (λ t. filter_map node_of (take (i + 1) t)) same
     ]

@@ -6,7 +6,9 @@ use Rattle.elf_object.proofs.object.read_lists.Goals as goal
 
 pub returns-in_err-places-clause-fault : goal.returns-in_err-places-clause-fault
 returns-in_err-places-clause-fault c =
-    let p = err_from_is_err_and c.from_residual-in_err-places.result c.from_residual-in_err-places.ensures.1 in
+    let p
+    = err_from_is_err_and c.from_residual-in_err-places.result
+    c.from_residual-in_err-places.ensures.1 in
     let file = ap (λ (v : FileSections). v.file) c.in_ok-parts.ensures.sections in
     rw (p.1, p.2)
     (elim c.in_err-places.ensures.fault [
@@ -22,5 +24,6 @@ returns-clause-passed c =
 pub returns-clause-loadable : goal.returns-clause-loadable
 returns-clause-loadable c =
     let file = ap (λ (v : FileSections). v.file) c.in_ok-parts.ensures.sections in
-    IsLoadable-passed c.args.bytes.now c.in_ok-parts.ensures.read c.in_ok-parts.ensures.fit c.in_ok-parts.ensures.passed
+    IsLoadable-passed c.args.bytes.now c.in_ok-parts.ensures.read c.in_ok-parts.ensures.fit
+    c.in_ok-parts.ensures.passed
     (rw file at c.in_ok-places.ensures.passed)

@@ -11,10 +11,13 @@ returns-then-start-end c =
     let i = c.loop-span.span-index in
     let s = get_or spans i no_span in
     let is = get_or_default spans i no_span s c.loop-span-test.true in
-    let long : 0 < s.width = All-get_or IsLong spans i no_span c.loop-span-test.true c.requires.long in
+    let long : 0 < s.width
+    = All-get_or IsLong spans i no_span c.loop-span-test.true c.requires.long in
     rw c.start-start.ensures
-    (IsLeastShared-found span_start span_end spans i s c.loop-span.end c.loop-span-test.true is c.requires.sorted
-    c.loop-span.invariant.apart c.loop-span.invariant.reaches (rw c.start-start.ensures at c.if-start-end.true) (omega arith))
+    (IsLeastShared-found span_start span_end spans i s c.loop-span.end c.loop-span-test.true is
+    c.requires.sorted
+    c.loop-span.invariant.apart c.loop-span.invariant.reaches
+    (rw c.start-start.ensures at c.if-start-end.true) (omega arith))
 
 pub loop-span-preserved : goal.loop-span-preserved
 loop-span-preserved c =
@@ -22,9 +25,12 @@ loop-span-preserved c =
     let i = c.loop-span.span-index in
     let s = get_or spans i no_span in
     let is = get_or_default spans i no_span s c.loop-span-test.true in
-    let long : 0 < s.width = All-get_or IsLong spans i no_span c.loop-span-test.true c.requires.long in
+    let long : 0 < s.width
+    = All-get_or IsLong spans i no_span c.loop-span-test.true c.requires.long in
     rw c.end-end.ensures (record {
-      apart = IsApart-more span_start span_end spans i s c.loop-span.end c.loop-span-test.true is c.loop-span.invariant.apart
+      apart
+          = IsApart-more span_start span_end spans i s c.loop-span.end c.loop-span-test.true is
+          c.loop-span.invariant.apart
           (rw c.start-start.ensures at c.if-start-end.false) (omega arith);
       reaches = Reaches-more span_start span_end spans i s c.loop-span-test.true is;
     })

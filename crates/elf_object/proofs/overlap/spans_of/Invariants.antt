@@ -6,7 +6,8 @@ use Rattle.elf_object.proofs.overlap.spans_of.Given as goal
 
 pub record Spanned (places : List RelaPlace) (spans : List Span) (n : ℕ) : Type 0 where
   pub long : All IsLong spans
-  pub counts : (a : ℕ) → count_at span_start span_end a spans ≡ count_at place_start place_end a (take n places)
+  pub counts : (a : ℕ)
+      → count_at span_start span_end a spans ≡ count_at place_start place_end a (take n places)
 
 abbrev pub invariant-loop-place : goal.invariant-loop-place
 invariant-loop-place l = Spanned l.places l.spans.items l.place-index

@@ -16,4 +16,5 @@ to_z-signed v fits =
 pub returns : goal.returns
 returns c =
     rw c.cast_signed.ensures
-    (ap (to_z w64) (of_z-to_z w64 c.args.bits (omega arith)) ∙ to_z-signed c.args.bits (omega arith))
+    (ap (to_z w64) (of_z-to_z w64 c.args.bits (omega arith))
+    ∙ to_z-signed c.args.bits (omega arith))

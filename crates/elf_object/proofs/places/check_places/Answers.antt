@@ -2,26 +2,35 @@ use Rattle.std.proofs.Common.{sym, inl, inr}
 use Rattle.std.proofs.lemmas.Result.{err_from_is_err_and}
 use Rattle.elf_object.proofs.ObjectLemmas.{place_tests-align, place_tests-ordered, place_tests-rela}
 use Rattle.elf_object.proofs.places.check_places.Goals as goal
-use Rattle.elf_object.proofs.places.check_places.Goals.{then-not-met+in_ok-read_places, else-not-met}
+use Rattle.elf_object.proofs.places.check_places.Goals.{then-not-met+in_ok-read_places}
+use Rattle.elf_object.proofs.places.check_places.Goals.{else-not-met}
 
 pub returns-in_err-check_alignments-clause-fault :
     goal.returns-in_err-check_alignments-clause-fault
 returns-in_err-check_alignments-clause-fault c =
     let p = err_from_is_err_and c.from_residual.result c.from_residual.ensures.1 in
-    rw (p.1, p.2) (inr (place_tests-align c.args.sections.now.file _ (sym c.in_err-check_alignments.ensures)))
+    rw (p.1, p.2)
+    (inr (place_tests-align c.args.sections.now.file _ (sym c.in_err-check_alignments.ensures)))
 
 pub returns-in_err-meet_places-clause-fault : goal.returns-in_err-meet_places-clause-fault
 returns-in_err-meet_places-clause-fault c =
-    let p = err_from_is_err_and c.from_residual-in_err-meet_places.result c.from_residual-in_err-meet_places.ensures.1 in
+    let p
+    = err_from_is_err_and c.from_residual-in_err-meet_places.result
+    c.from_residual-in_err-meet_places.ensures.1 in
     rw (p.1, p.2)
     (elim c.in_err-meet_places.ensures.fault [
       | inl memory ↦ inl memory
-      | inr failed ↦ inr (place_tests-rela c.args.sections.now.file _ (sym c.in_ok-check_alignments.ensures) failed)
+      | inr failed ↦ inr
+          (place_tests-rela c.args.sections.now.file _ (sym c.in_ok-check_alignments.ensures)
+          failed)
     ])
 
 pub returns-clause-passed : goal.returns-clause-passed
 returns-clause-passed c =
     elim c.if-not-met.branch [
       | then-not-met+in_ok-read_places w ↦ w.in_ok-read_places.ensures.passed
-      | else-not-met w ↦ place_tests-ordered c.args.sections.now.file c.meet_places.new.met.order c.requires.small c.requires.read.table c.requires.read.within c.requires.fit (sym c.in_ok-check_alignments.ensures) c.in_ok-meet_places.ensures.passed c.in_ok-meet_places.ensures.met.order w.if-not-met.false
+      | else-not-met w ↦ place_tests-ordered c.args.sections.now.file c.meet_places.new.met.order
+          c.requires.small c.requires.read.table c.requires.read.within c.requires.fit
+          (sym c.in_ok-check_alignments.ensures) c.in_ok-meet_places.ensures.passed
+          c.in_ok-meet_places.ensures.met.order w.if-not-met.false
     ]

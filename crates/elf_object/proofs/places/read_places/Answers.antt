@@ -1,27 +1,37 @@
 use Rattle.std.proofs.Common.{sym, ◌∙◌, inl, inr}
 use Rattle.std.proofs.lemmas.Result.{err_from_is_err_and}
-use Rattle.elf_object.proofs.ObjectLemmas.{place_tests-align, place_tests-overlaps, place_tests-rela}
+use Rattle.elf_object.proofs.ObjectLemmas.{place_tests-align, place_tests-overlaps}
+use Rattle.elf_object.proofs.ObjectLemmas.{place_tests-rela}
 use Rattle.elf_object.proofs.places.read_places.Goals as goal
 
 pub returns-in_err-check_alignments-clause-fault :
     goal.returns-in_err-check_alignments-clause-fault
 returns-in_err-check_alignments-clause-fault c =
     let p = err_from_is_err_and c.from_residual.result c.from_residual.ensures.1 in
-    rw (p.1, p.2) (inr (place_tests-align c.args.sections.now.file _ (sym c.in_err-check_alignments.ensures)))
+    rw (p.1, p.2)
+    (inr (place_tests-align c.args.sections.now.file _ (sym c.in_err-check_alignments.ensures)))
 
 pub returns-in_err-meet_places-clause-fault : goal.returns-in_err-meet_places-clause-fault
 returns-in_err-meet_places-clause-fault c =
-    let p = err_from_is_err_and c.from_residual-in_err-meet_places.result c.from_residual-in_err-meet_places.ensures.1 in
+    let p
+    = err_from_is_err_and c.from_residual-in_err-meet_places.result
+    c.from_residual-in_err-meet_places.ensures.1 in
     rw (p.1, p.2)
     (elim c.in_err-meet_places.ensures.fault [
       | inl memory ↦ inl memory
-      | inr failed ↦ inr (place_tests-rela c.args.sections.now.file _ (sym c.in_ok-check_alignments.ensures) failed)
+      | inr failed ↦ inr
+          (place_tests-rela c.args.sections.now.file _ (sym c.in_ok-check_alignments.ensures)
+          failed)
     ])
 
 pub returns-in_err-check_overlaps-clause-fault : goal.returns-in_err-check_overlaps-clause-fault
 returns-in_err-check_overlaps-clause-fault c =
-    let p = err_from_is_err_and c.from_residual-in_err-check_overlaps.result c.from_residual-in_err-check_overlaps.ensures.1 in
-    let left = place_tests-overlaps c.args.sections.now.file (sym c.in_ok-check_alignments.ensures) c.in_ok-meet_places.ensures.passed in
+    let p
+    = err_from_is_err_and c.from_residual-in_err-check_overlaps.result
+    c.from_residual-in_err-check_overlaps.ensures.1 in
+    let left
+    = place_tests-overlaps c.args.sections.now.file (sym c.in_ok-check_alignments.ensures)
+    c.in_ok-meet_places.ensures.passed in
     rw (p.1, p.2)
     (elim c.in_err-check_overlaps.ensures.fault [
       | inl memory ↦ inl memory
@@ -30,5 +40,6 @@ returns-in_err-check_overlaps-clause-fault c =
 
 pub returns-clause-passed : goal.returns-clause-passed
 returns-clause-passed c =
-    place_tests-overlaps c.args.sections.now.file (sym c.in_ok-check_alignments.ensures) c.in_ok-meet_places.ensures.passed
+    place_tests-overlaps c.args.sections.now.file (sym c.in_ok-check_alignments.ensures)
+    c.in_ok-meet_places.ensures.passed
     ∙ c.in_ok-check_overlaps.ensures.passed

@@ -9,11 +9,15 @@ use Rattle.elf_object.proofs.symbol.read_symbols.Goals as goal
 pub returns-in_err-symbol-clause-fault : goal.returns-in_err-symbol-clause-fault
 returns-in_err-symbol-clause-fault c =
     let test = symbol_test_in c.args.table.now c.args.names.now c.args.count in
-    let p = err_from_is_err_and c.from_residual-in_err-symbol.result c.from_residual-in_err-symbol.ensures.1 in
+    let p
+    = err_from_is_err_and c.from_residual-in_err-symbol.result
+    c.from_residual-in_err-symbol.ensures.1 in
     rw (p.1, p.2)
     (elim c.in_err-symbol.ensures.fault [
       | inl memory ↦ inl memory
-      | inr failed ↦ inr (each-failed (entries c.args.table.now) test c.loop-index.index _ (omega arith) c.loop-index.invariant.tests failed)
+      | inr failed ↦ inr
+          (each-failed (entries c.args.table.now) test c.loop-index.index _ (omega arith)
+          c.loop-index.invariant.tests failed)
     ])
 
 pub loop-index-preserved : goal.loop-index-preserved
@@ -25,7 +29,8 @@ loop-index-preserved c =
           ap (map owned_symbol) c.in_ok-push.ensures.items
           ∙ map-append owned_symbol c.loop-index.symbols.items _
           ∙ rw (c.loop-index.invariant.symbols_are, c.in_ok-symbol.ensures.symbol)
-          (sym (map-range_with_len_more (symbol_in c.args.table.now c.args.names.now) 0 i i (omega arith)));
+          (sym (map-range_with_len_more (symbol_in c.args.table.now c.args.names.now) 0 i i
+          (omega arith)));
       within = let within = c.loop-index.invariant.within in omega arith;
     }
 
@@ -37,5 +42,6 @@ returns-clause-symbols c =
 
 pub returns-clause-passed : goal.returns-clause-passed
 returns-clause-passed c =
-    each-passed (entries c.args.table.now) (symbol_test_in c.args.table.now c.args.names.now c.args.count)
+    each-passed (entries c.args.table.now)
+    (symbol_test_in c.args.table.now c.args.names.now c.args.count)
     (λ k less. c.loop-index.invariant.tests k (omega arith))

@@ -11,9 +11,12 @@ returns-then-section-eq-SHT_REL c =
     let b = c.args.sections.now.file in
     let i = c.loop-index.index in
     sym (each-failed (section_count b) (rel_test b) i _ (omega arith) c.loop-index.invariant
-    (rel_test-failed b i (rw (ap (λ (s : Section). s.kind) c.section.ensures.header) at c.if-section-eq-SHT_REL.true)))
+    (rel_test-failed b i
+    (rw (ap (λ (s : Section). s.kind) c.section.ensures.header) at
+    c.if-section-eq-SHT_REL.true)))
 
 pub returns : goal.returns
 returns c =
     let b = c.args.sections.now.file in
-    sym (each-passed (section_count b) (rel_test b) (λ k less. c.loop-index.invariant k (omega arith)))
+    sym (each-passed (section_count b) (rel_test b)
+    (λ k less. c.loop-index.invariant k (omega arith)))

@@ -16,7 +16,8 @@ returns-then-not-is_good_table-clause-fault c =
 pub returns-clause-fault : goal.returns-clause-fault
 returns-clause-fault c =
     let b = c.args.sections.now.file in
-    sym (each-passed (section_count b) (table_test b) (λ k less. table_test-passed b k (c.loop-index.invariant k (omega arith))))
+    sym (each-passed (section_count b) (table_test b)
+    (λ k less. table_test-passed b k (c.loop-index.invariant k (omega arith))))
 
 pub returns-clause-fit : goal.returns-clause-fit
 returns-clause-fit c =

@@ -11,4 +11,5 @@ returns-then-section-eq-SHT_SYMTAB c =
 
 pub returns : goal.returns
 returns c =
-    sym (symbol_table-none c.args.sections.now.file (λ k less. c.loop-index.invariant k (omega arith)))
+    sym (symbol_table-none c.args.sections.now.file
+    (λ k less. c.loop-index.invariant k (omega arith)))

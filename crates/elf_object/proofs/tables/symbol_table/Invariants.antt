@@ -4,4 +4,5 @@ use Rattle.elf_sections.specs.Sections.{section_of}
 use Rattle.elf_object.proofs.tables.symbol_table.Given as goal
 
 abbrev pub invariant-loop-index : goal.invariant-loop-index
-invariant-loop-index l = (k : ℕ) → k < l.index → ((section_of l.sections.file k).kind == SHT_SYMTAB) ≡ false
+invariant-loop-index l =
+    (k : ℕ) → k < l.index → ((section_of l.sections.file k).kind == SHT_SYMTAB) ≡ false

@@ -9,5 +9,8 @@ unfolding section_of
 returns c =
     let b = c.args.bytes.now in
     let h = c.section_header-header.result in
-    let name = c.section_name-name.ensures ∙ name_in-same (contents b (name_table b)) c.args.names.now h.kind h.name c.requires.names in
+    let name
+    = c.section_name-name.ensures
+    ∙ name_in-same (contents b (name_table b)) c.args.names.now h.kind h.name
+    c.requires.names in
     rw (c.is_kept.ensures, name, c.section_header-header.ensures) refl

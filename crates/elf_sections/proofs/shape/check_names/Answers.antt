@@ -14,7 +14,9 @@ returns-in_err-left-clause-fault c =
     rw (p.1, p.2)
     (elim (rw c.section_header-header.ensures at c.in_err-left.ensures.fault) [
       | inl memory ↦ inl memory
-      | inr failed ↦ inr (each-failed (section_count b) (name_test b) i _ (omega arith) c.loop-index.invariant.tests (sym same ∙ failed))
+      | inr failed ↦ inr
+          (each-failed (section_count b) (name_test b) i _ (omega arith)
+          c.loop-index.invariant.tests (sym same ∙ failed))
     ])
 
 pub loop-index-preserved : goal.loop-index-preserved
@@ -31,4 +33,5 @@ loop-index-preserved c =
 pub returns-clause-passed : goal.returns-clause-passed
 returns-clause-passed c =
     let b = c.args.bytes.now in
-    each-passed (section_count b) (name_test b) (λ k less. c.loop-index.invariant.tests k (omega arith))
+    each-passed (section_count b) (name_test b)
+    (λ k less. c.loop-index.invariant.tests k (omega arith))

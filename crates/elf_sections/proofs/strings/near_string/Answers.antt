@@ -9,4 +9,5 @@ pub returns-in-Some : goal.returns-in-Some
 unfolding string_of
 returns-in-Some c =
     let bytes = c.args.bytes.now in
-    sym (ap (option_map (λ n. take n bytes)) (first_byte-position (is_byte 0) bytes (Some c.in-Some.end) c.in-Some.ensures))
+    sym (ap (option_map (λ n. take n bytes))
+    (first_byte-position (is_byte 0) bytes (Some c.in-Some.end) c.in-Some.ensures))

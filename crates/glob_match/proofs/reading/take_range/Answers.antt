@@ -9,5 +9,7 @@ returns-clause-places c test h =
     let l = c.list.new.self in
     let list = λ (m : ℕ). is_between c.args.low c.args.high (slice_index c.args.bytes.now m) in
     c.take.ensures.places test list
-    (still_places u l test c.list.ensures.same (still_places c.args.state.now u test c.unlist.ensures.same h))
-    (still_listed u l list c.list.ensures.same (c.list.ensures.listed (λ n. false) c.unlist.ensures.listed))
+    (still_places u l test c.list.ensures.same
+    (still_places c.args.state.now u test c.unlist.ensures.same h))
+    (still_listed u l list c.list.ensures.same
+    (c.list.ensures.listed (λ n. false) c.unlist.ensures.listed))

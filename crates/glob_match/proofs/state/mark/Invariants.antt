@@ -5,7 +5,8 @@ use Rattle.glob_match.proofs.state.mark.Given as goal
 -- the bytes so far were marked
 pub record Marking (set bytes marks : List ℕ) (count : ℕ) : Type 0 where
   pub size : length marks ≡ count
-  pub marked : (test : ℕ → Bool) (k : ℕ) → HasBits set test → k < count → slice_index marks k ≡ bit (test (slice_index bytes k))
+  pub marked : (test : ℕ → Bool) (k : ℕ) → HasBits set test → k < count
+      → slice_index marks k ≡ bit (test (slice_index bytes k))
 
 abbrev pub invariant-loop-n : goal.invariant-loop-n
 invariant-loop-n l = Marking l.set l.bytes l.marks.items l.n

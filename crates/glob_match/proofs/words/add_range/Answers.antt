@@ -16,9 +16,12 @@ loop-at-preserved c =
     change _ c.args.words.now c.loop-at.words at _ (omega arith) c.loop-at.invariant
     (λ i low.
     bit_at_or _ c.in_range.result i
-    ∙ (λ j. max (bit_at (c.loop-at.invariant.left at (omega arith) j) i) (c.in_range.ensures i low j))
-    ∙ ap (λ x. max (bit_at (slice_index c.args.words.now at) i) (bit (is_between c.args.low c.args.high x)))
-    (get_or-take (length bytes - at * 64) (drop (at * 64) bytes) i 0 (omega (arith, low)) ∙ get_or-drop (at * 64) bytes i 0 ∙ ap (slice_index bytes) (omega arith)))
+    ∙ (λ j. max (bit_at (c.loop-at.invariant.left at (omega arith) j) i)
+    (c.in_range.ensures i low j))
+    ∙ ap (λ x. max (bit_at (slice_index c.args.words.now at) i)
+    (bit (is_between c.args.low c.args.high x)))
+    (get_or-take (length bytes - at * 64) (drop (at * 64) bytes) i 0 (omega (arith, low))
+    ∙ get_or-drop (at * 64) bytes i 0 ∙ ap (slice_index bytes) (omega arith)))
 
 pub returns : goal.returns
 returns c test h k i lt low =

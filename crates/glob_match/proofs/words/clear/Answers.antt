@@ -8,7 +8,9 @@ pub loop-at-init : goal.loop-at-init
 loop-at-init c = unchanged _ c.args.words.now
 
 pub loop-at-preserved : goal.loop-at-preserved
-loop-at-preserved c = change _ c.args.words.now c.loop-at.words c.loop-at.at 0 (omega arith) c.loop-at.invariant refl
+loop-at-preserved c =
+    change _ c.args.words.now c.loop-at.words c.loop-at.at 0 (omega arith) c.loop-at.invariant refl
 
 pub returns : goal.returns
-returns c k i lt low = ap (λ w. bit_at w i) (c.loop-at.invariant.done k (omega arith)) ∙ bit_at-zero i
+returns c k i lt low =
+    ap (λ w. bit_at w i) (c.loop-at.invariant.done k (omega arith)) ∙ bit_at-zero i

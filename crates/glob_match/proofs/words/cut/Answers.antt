@@ -4,4 +4,6 @@ use Rattle.glob_match.proofs.WordLemmas.{cut_bits}
 use Rattle.glob_match.proofs.words.cut.Goals as goal
 
 pub returns : goal.returns
-returns c test h k i lt low = cut_bits c.args.words.now c.args.last test h c.requires k i (omega (arith, lt, length-set c.args.words.now)) low
+returns c test h k i lt low =
+    cut_bits c.args.words.now c.args.last test h c.requires k i
+    (omega (arith, lt, length-set c.args.words.now)) low

@@ -10,7 +10,9 @@ loop-at-init c = unchanged _ c.args.words.now
 pub loop-at-preserved : goal.loop-at-preserved
 loop-at-preserved c =
     let at = c.loop-at.at in
-    change _ c.args.words.now c.loop-at.words at _ (omega arith) c.loop-at.invariant (ap (λ w. bit_and w (slice_index c.args.listed.now at)) (c.loop-at.invariant.left at (omega arith)))
+    change _ c.args.words.now c.loop-at.words at _ (omega arith) c.loop-at.invariant
+    (ap (λ w. bit_and w (slice_index c.args.listed.now at))
+    (c.loop-at.invariant.left at (omega arith)))
 
 pub returns : goal.returns
 returns c test list h g k i lt low =

@@ -5,4 +5,8 @@ use Rattle.glob_match.proofs.WordLemmas.{Changed}
 use Rattle.glob_match.proofs.words.keep_range.Given as goal
 
 abbrev pub invariant-loop-at : goal.invariant-loop-at
-invariant-loop-at l = Changed (λ k old new. (i : ℕ) → i < 64 → bit_at new i ≡ min (bit_at old i) (bit (is_between l.low l.high (slice_index l.bytes (64 * k + i))))) l.fn.words l.words l.at
+invariant-loop-at l =
+    Changed (λ k old new. (i : ℕ) → i < 64
+    → bit_at new i
+    ≡ min (bit_at old i) (bit (is_between l.low l.high (slice_index l.bytes (64 * k + i)))))
+    l.fn.words l.words l.at

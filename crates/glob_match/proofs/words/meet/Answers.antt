@@ -1,10 +1,12 @@
-use Rattle.std.proofs.Common.{◌≡◌, refl, sym, subst, ◌∙◌, ⊎_elim, ◌+◌, ◌-◌, ◌*◌, ◌&&◌, false, length, slice_index, arith, rules}
+use Rattle.std.proofs.Common.{◌≡◌, refl, sym, subst, ◌∙◌, ⊎_elim, ◌+◌, ◌-◌, ◌*◌, ◌&&◌, false}
+use Rattle.std.proofs.Common.{length, slice_index, arith, rules}
 use Rattle.std.proofs.lemmas.Bool.{cases_lt, and_left, and_from, false≢true}
 use Rattle.glob_match.proofs.ShiftLemmas.{none_common, one_common, from_start, and_fits}
 use Rattle.glob_match.proofs.words.meet.Goals as goal
 
 pub loop-at-init : goal.loop-at-init
-loop-at-init c some other h g none n lt = and_left (some n) (other n) (h.before n (omega (arith, lt)))
+loop-at-init c some other h g none n lt =
+    and_left (some n) (other n) (h.before n (omega (arith, lt)))
 
 pub returns-then-reached-at-ne0 : goal.returns-then-reached-at-ne0
 returns-then-reached-at-ne0 c some other h g none = (
@@ -39,7 +41,8 @@ pub returns : goal.returns
 returns c some other h g none = (
   λ e. absurd (false≢true e),
   λ m. ⊎_elim
-      (λ inside. sym (c.loop-at.invariant some other h g none m.0 (omega (arith, inside))) ∙ and_from (some m.0) (other m.0) m.1 m.2)
+      (λ inside. sym (c.loop-at.invariant some other h g none m.0 (omega (arith, inside)))
+      ∙ and_from (some m.0) (other m.0) m.1 m.2)
       (λ past. sym (h.after m.0 past) ∙ m.1)
       (cases_lt m.0 (c.args.first + 64 * length c.args.reached.now)),
 )

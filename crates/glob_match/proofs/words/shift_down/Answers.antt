@@ -1,4 +1,5 @@
-use Rattle.std.proofs.Common.{◌≡◌, sym, ap, ◌∙◌, suc, ◌+◌, ◌-◌, ◌*◌, ◌/◌, ◌%◌, ◌^◌, length, slice_index, bit_or, ℕ, ◌<◌, arith, rules}
+use Rattle.std.proofs.Common.{◌≡◌, sym, ap, ◌∙◌, suc, ◌+◌, ◌-◌, ◌*◌, ◌/◌, ◌%◌, ◌^◌, length}
+use Rattle.std.proofs.Common.{slice_index, bit_or, ℕ, ◌<◌, arith, rules}
 use Rattle.std.proofs.lemmas.List.{get_or_past}
 use Rattle.std.specs.Int.{bit_at}
 use Rattle.glob_match.specs.Words.{bit}
@@ -20,7 +21,9 @@ loop-at-preserved c =
     let next = h.next_is ∙ ap (slice_index c.args.words.now) back in
     record {
       next_is = same;
-      changed = change _ c.args.words.now c.loop-at.words at _ (omega arith) (omega arith) h.changed (λ j. bit_or (same j / 2) (next j * 2 ^ 63 % 2 ^ 64));
+      changed
+          = change _ c.args.words.now c.loop-at.words at _ (omega arith) (omega arith) h.changed
+          (λ j. bit_or (same j / 2) (next j * 2 ^ 63 % 2 ^ 64));
     }
 
 pub returns : goal.returns

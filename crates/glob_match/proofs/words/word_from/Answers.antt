@@ -1,4 +1,5 @@
-use Rattle.std.proofs.Common.{◌≡◌, sym, ap, ◌∙◌, ℕ, suc, ◌+◌, ◌-◌, ◌*◌, ◌/◌, ◌%◌, ◌^◌, ◌<◌, slice_index, bit_or, arith, rules}
+use Rattle.std.proofs.Common.{◌≡◌, sym, ap, ◌∙◌, ℕ, suc, ◌+◌, ◌-◌, ◌*◌, ◌/◌, ◌%◌, ◌^◌, ◌<◌}
+use Rattle.std.proofs.Common.{slice_index, bit_or, arith, rules}
 use Rattle.std.proofs.lemmas.List.{get_or_past}
 use Rattle.std.specs.Int.{bit_at}
 use Rattle.glob_match.specs.Words.{bit}
@@ -15,7 +16,8 @@ returns c test h none i lt =
     let after : suc at ≡ at + 1 = omega arith in
     let next : c.if-at-words-2.next ≡ slice_index words (suc at) = elim c.if-at-words-2.branch [
       | then-at-words-2 w ↦ w.next-is ∙ ap (slice_index words) (sym after)
-      | else-at-words-2 w ↦ w.next-is ∙ sym (get_or_past words (suc at) 0 (omega (arith, w.if-at-words-2.false)))
+      | else-at-words-2 w ↦ w.next-is
+          ∙ sym (get_or_past words (suc at) 0 (omega (arith, w.if-at-words-2.false)))
     ] in
     let there : 64 * at + (k + i) ≡ c.args.place + i = omega arith in
     ap (λ n. bit_at (bit_or (slice_index words at / 2 ^ k) (n * 2 ^ (64 - k) % 2 ^ 64)) i) next

@@ -14,4 +14,6 @@ relocate-requires-clause-image c =
 pub returns-clause-length : goal.returns-clause-length
 returns-clause-length c =
     let o = c.args.object.now in
-    ap length c.in_ok-relocate.ensures.image ∙ length-patched c.in_ok-image.image (patches o c.args.base c.args.addresses.now) ∙ ap length c.in_ok-image.ensures ∙ length-filled (image_size o.sections) (pieces o)
+    ap length c.in_ok-relocate.ensures.image
+    ∙ length-patched c.in_ok-image.image (patches o c.args.base c.args.addresses.now)
+    ∙ ap length c.in_ok-image.ensures ∙ length-filled (image_size o.sections) (pieces o)

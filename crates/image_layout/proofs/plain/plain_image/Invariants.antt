@@ -5,4 +5,5 @@ use Rattle.image_layout.specs.Plain.{filled, piece}
 use Rattle.image_layout.proofs.plain.plain_image.Given as goal
 
 abbrev pub invariant-loop-i : goal.invariant-loop-i
-invariant-loop-i l = l.image ≡ filled (image_size l.object.sections) (map (piece l.object) (range_with_len 0 l.i))
+invariant-loop-i l =
+    l.image ≡ filled (image_size l.object.sections) (map (piece l.object) (range_with_len 0 l.i))

@@ -16,9 +16,11 @@ returns-clause-no_keys c = ap (λ es. file_of (written FIRST_PLACE (tree es))) e
 pub returns-clause-five_keys : goal.returns-clause-five_keys
 unfolding file file_of written node_bytes tree nodes_below
 returns-clause-five_keys c =
-    ap (λ es. file_of (written FIRST_PLACE (tree es))) (entries-from_sorted (slice_cmp nat_cmp) five_entries tt)
+    ap (λ es. file_of (written FIRST_PLACE (tree es)))
+    (entries-from_sorted (slice_cmp nat_cmp) five_entries tt)
 
 pub returns-clause-two_modules : goal.returns-clause-two_modules
 unfolding file file_of written node_bytes tree nodes_below
 returns-clause-two_modules c =
-    ap (λ es. file_of (written FIRST_PLACE (tree es))) (entries-from_sorted (slice_cmp nat_cmp) two_modules_entries tt)
+    ap (λ es. file_of (written FIRST_PLACE (tree es)))
+    (entries-from_sorted (slice_cmp nat_cmp) two_modules_entries tt)

@@ -8,4 +8,5 @@ pub returns-else-bytes-at : goal.returns-else-bytes-at
 returns-else-bytes-at c =
     let b = c.args.bytes.now in
     lt-leb (c.args.at + 4) (length b) c.if-bytes-at.false
-    ∙ sym (ne_eqb (be b c.args.at 4) c.args.number (cut_number b c.args.at c.args.number c.if-bytes-at.false c.requires.last))
+    ∙ sym (ne_eqb (be b c.args.at 4) c.args.number
+    (cut_number b c.args.at c.args.number c.if-bytes-at.false c.requires.last))

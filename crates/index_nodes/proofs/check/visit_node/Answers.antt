@@ -11,7 +11,8 @@ pub returns-then-offset-visit-clause-fault : goal.returns-then-offset-visit-clau
 returns-then-offset-visit-clause-fault c =
     let place = c.place-offset.ensures.place in
     let a = arrival_of c.args.visit.now in
-    λ seen h. fault_above c.args.bytes.now seen a (omega (arith, c.if-offset-visit.true, place)) ∙ ap (λ q. Some (BadNode q)) (sym place)
+    λ seen h. fault_above c.args.bytes.now seen a (omega (arith, c.if-offset-visit.true, place))
+    ∙ ap (λ q. Some (BadNode q)) (sym place)
 
 pub returns-then-has-clause-fault : goal.returns-then-has-clause-fault
 returns-then-has-clause-fault c =
@@ -19,7 +20,8 @@ returns-then-has-clause-fault c =
     let a = arrival_of c.args.visit.now in
     λ seen h.
     fault_seen c.args.bytes.now seen a (omega (arith, c.if-offset-visit.false, place))
-    (sym (h (place_of a.link)) ∙ ap (has_place c.args.visited.now) (sym place) ∙ sym c.has.ensures ∙ c.if-has.true)
+    (sym (h (place_of a.link)) ∙ ap (has_place c.args.visited.now) (sym place) ∙ sym c.has.ensures
+    ∙ c.if-has.true)
     ∙ ap (λ q. Some (Revisited q)) (sym place)
 
 pub returns-in_default-clause-fault : goal.returns-in_default-clause-fault
@@ -28,7 +30,8 @@ returns-in_default-clause-fault c =
     let a = arrival_of c.args.visit.now in
     λ seen h.
     fault_by_sound c.args.bytes.now seen a false (omega (arith, c.if-offset-visit.false, place))
-    (sym (h (place_of a.link)) ∙ ap (has_place c.args.visited.now) (sym place) ∙ sym c.has.ensures ∙ c.if-has.false)
+    (sym (h (place_of a.link)) ∙ ap (has_place c.args.visited.now) (sym place) ∙ sym c.has.ensures
+    ∙ c.if-has.false)
     (rw c.in_default.is at c.in_ok-node.ensures.sound)
     ∙ ap (λ q. Some (BadNode q)) (sym place)
 
@@ -45,7 +48,8 @@ returns-clause-passes c =
     let a = arrival_of c.args.visit.now in
     λ seen h.
     fault_by_sound c.args.bytes.now seen a true (omega (arith, c.if-offset-visit.false, place))
-    (sym (h (place_of a.link)) ∙ ap (has_place c.args.visited.now) (sym place) ∙ sym c.has.ensures ∙ c.if-has.false)
+    (sym (h (place_of a.link)) ∙ ap (has_place c.args.visited.now) (sym place) ∙ sym c.has.ensures
+    ∙ c.if-has.false)
     (rw c.in-Some.is at c.in_ok-node.ensures.sound).0
 
 pub children_of-requires-clause-fit : goal.children_of-requires-clause-fit

@@ -14,13 +14,16 @@ returns-then-left-eq0-clause-none c =
 pub be_u32_at-requires : goal.be_u32_at-requires
 be_u32_at-requires c =
     let one : c.args.left ≡ suc (c.args.left - 1) = omega (arith, c.if-left-eq0.false) in
-    (whole_value c.args.bytes.now c.args.start (c.args.left - 1) (sym (ap (λ n. whole_values n (drop c.args.start c.args.bytes.now)) one) ∙ c.requires.whole)).four
+    (whole_value c.args.bytes.now c.args.start (c.args.left - 1)
+    (sym (ap (λ n. whole_values n (drop c.args.start c.args.bytes.now)) one)
+    ∙ c.requires.whole)).four
 
 pub returns-clause-first : goal.returns-clause-first
 returns-clause-first c =
     let b = c.args.bytes.now in
     let one : c.args.left ≡ suc (c.args.left - 1) = omega (arith, c.if-left-eq0.false) in
-    ap (λ vs. slice_get vs 0) (ap (values_from b c.args.start) one ∙ values-step b c.args.start (c.args.left - 1))
+    ap (λ vs. slice_get vs 0)
+    (ap (values_from b c.args.start) one ∙ values-step b c.args.start (c.args.left - 1))
     ∙ ap (λ n. Some (n, text (drop (c.args.start + 4) b))) (sym c.be_u32_at.ensures)
 
 pub returns-clause-place : goal.returns-clause-place

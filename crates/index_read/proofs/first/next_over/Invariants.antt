@@ -5,7 +5,8 @@ use Rattle.index_read.specs.FirstSteps.{IsOnWay, first_items, still}
 use Rattle.index_read.proofs.first.next_over.Given as goal
 
 -- the nodes so far had no value
-pub record Seeking (b : List ℕ) (start : KeyWalk) (first : Option Node) (w : KeyWalk) (root : Option Node) : Type 0 where
+pub record Seeking (b : List ℕ) (start : KeyWalk) (first : Option Node) (w : KeyWalk)
+    (root : Option Node) : Type 0 where
   pub way : IsOnWay b w root
   pub same : first_items b (still b w root) ≡ first_items b (still b start first)
 

@@ -7,7 +7,8 @@ use Rattle.index_read.proofs.search.enter.Goals as goal
 
 pub returns-then-not-branch-clause-enters : goal.returns-then-not-branch-clause-enters
 returns-then-not-branch-clause-enters g c text pattern o h =
-    lost_more text (pattern ++ c.args.child.0 ∷ []) (prefix c.args.nodes.now c.args.child.1) (rw (c.if-not-branch.true) at (c.in_ok-read_byte.ensures.read text pattern o h))
+    lost_more text (pattern ++ c.args.child.0 ∷ []) (prefix c.args.nodes.now c.args.child.1)
+    (rw (c.if-not-branch.true) at (c.in_ok-read_byte.ensures.read text pattern o h))
 
 pub returns-clause-enters : goal.returns-clause-enters
 returns-clause-enters g c =
@@ -16,6 +17,8 @@ returns-clause-enters g c =
     IfOk-weaker c.read_prefix.result _ _
     (λ found enters text pattern o h.
     let front = pattern ++ c.args.child.0 ∷ [] in
-    subst (λ link. Enters b text (front ++ prefix b link) link c.read_prefix.new.progress found) c.node-node.ensures.name
-    (enters text front (read.over text o) (rw (c.if-not-branch.false) at (read.read text pattern o h))))
+    subst (λ link. Enters b text (front ++ prefix b link) link c.read_prefix.new.progress found)
+    c.node-node.ensures.name
+    (enters text front (read.over text o)
+    (rw (c.if-not-branch.false) at (read.read text pattern o h))))
     c.read_prefix.ensures.enters

@@ -10,12 +10,16 @@ use Rattle.index_read.proofs.PlaceValues.{values_at_place}
 use Rattle.index_read.proofs.value.push_pairs.Given as goal
 
 -- the values so far and those that are left are the ones that are wanted
-pub record Pushing (b key : List ℕ) (found want : List KeyValue) (next : Option Place) : Type 0 where
-  pub values : found ++ map (λ v. (key, v)) (values_at_place b next) ≡ want
-  pub place : IfSome next (IsPlaceOf b)
+pub record Pushing (b key : List ℕ) (found want : List KeyValue) (next : Option Place) : Type 0
+  where
+    pub values : found ++ map (λ v. (key, v)) (values_at_place b next) ≡ want
+    pub place : IfSome next (IsPlaceOf b)
 
 abbrev pub invariant-loop-next : goal.invariant-loop-next
-invariant-loop-next l = Pushing l.nodes l.key (shown_pairs l.found.items) (shown_pairs l.fn.found.items ++ map (λ v. (l.key, v)) (values l.nodes (link_of l.node))) l.next
+invariant-loop-next l =
+    Pushing l.nodes l.key (shown_pairs l.found.items)
+    (shown_pairs l.fn.found.items ++ map (λ v. (l.key, v)) (values l.nodes (link_of l.node)))
+    l.next
 
 abbrev pub decreases-loop-next : goal.decreases-loop-next
 decreases-loop-next l = length (values_at_place l.nodes l.next)

@@ -15,7 +15,9 @@ pub record Pushing (b : List ℕ) (found want : List Value) (next : Option Place
   pub place : IfSome next (IsPlaceOf b)
 
 abbrev pub invariant-loop-next : goal.invariant-loop-next
-invariant-loop-next l = Pushing l.nodes (found_values l.found.items) (found_values l.fn.found.items ++ values l.nodes (link_of l.node)) l.next
+invariant-loop-next l =
+    Pushing l.nodes (found_values l.found.items)
+    (found_values l.fn.found.items ++ values l.nodes (link_of l.node)) l.next
 
 abbrev pub decreases-loop-next : goal.decreases-loop-next
 decreases-loop-next l = length (values_at_place l.nodes l.next)

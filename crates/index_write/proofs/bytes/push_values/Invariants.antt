@@ -6,4 +6,5 @@ use Rattle.index_write.proofs.bytes.push_values.Given as goal
 
 abbrev pub invariant-loop-value : goal.invariant-loop-value
 invariant-loop-value l =
-    l.out.items ++ flat_map value_bytes (drop l.value-index (shown_values l.values)) ≡ l.initial.out.items ++ flat_map value_bytes (shown_values l.values)
+    l.out.items ++ flat_map value_bytes (drop l.value-index (shown_values l.values))
+    ≡ l.initial.out.items ++ flat_map value_bytes (shown_values l.values)

@@ -6,4 +6,5 @@ use Rattle.index_write.proofs.bytes.write.Given as goal
 
 abbrev pub invariant-loop-node : goal.invariant-loop-node
 invariant-loop-node l =
-    with_parts (drop l.node-index (map part_of l.nodes)) (state l.out.items l.links.items) ≡ with_parts (map part_of l.nodes) headed
+    with_parts (drop l.node-index (map part_of l.nodes)) (state l.out.items l.links.items)
+    ≡ with_parts (map part_of l.nodes) headed

@@ -9,6 +9,7 @@ pub returns-clause-ok : goal.returns-clause-ok
 returns-clause-ok c =
     ap shown_values c.in_ok-insert.ensures.items
     ∙ shown_values-insert c.args.list.now.items c.place_for-at.result c.args.value
-    ∙ ap (λ items. insert (shown_values items) c.place_for-at.result (value_of c.args.value)) (sym c.deref.ensures.value)
+    ∙ ap (λ items. insert (shown_values items) c.place_for-at.result (value_of c.args.value))
+    (sym c.deref.ensures.value)
     ∙ c.place_for-at.ensures.place (value_of c.args.value) refl
     ∙ ap (λ items. place (shown_values items) (value_of c.args.value)) c.deref.ensures.value

@@ -4,4 +4,5 @@ use Rattle.index_write.proofs.node.ending.Goals as goal
 
 pub returns-else-first-depth : goal.returns-else-first-depth
 returns-else-first-depth c =
-    sym (first_ending c.args.depth c.args.entries.now c.in-Some.first.now (sym c.in-Some.ensures.value) c.if-first-depth.false)
+    sym (first_ending c.args.depth c.args.entries.now c.in-Some.first.now
+    (sym c.in-Some.ensures.value) c.if-first-depth.false)

@@ -7,14 +7,22 @@ use Rattle.index_write.proofs.node.node_of.Goals as goal
 
 pub push_groups-requires : goal.push_groups-requires
 push_groups-requires c =
-    below-rises c.args.group.now.depth c.args.group.now.entries.now c.common_prefix-prefix.result.now c.common_prefix-prefix.ensures.prefix c.requires
+    below-rises c.args.group.now.depth c.args.group.now.entries.now
+    c.common_prefix-prefix.result.now c.common_prefix-prefix.ensures.prefix c.requires
 
 pub returns-clause-node : goal.returns-clause-node
 returns-clause-node c =
-    let rest = below-shown c.args.group.now.depth c.args.group.now.entries.now c.common_prefix-prefix.result.now c.common_prefix-prefix.ensures.prefix in
-    let now = ap groups_of c.deref.ensures.value ∙ c.in_ok-push_groups.ensures ∙ ap (λ es. groups_of c.args.pending.now.items ++ groups es) rest in
+    let rest
+    = below-shown c.args.group.now.depth c.args.group.now.entries.now
+    c.common_prefix-prefix.result.now c.common_prefix-prefix.ensures.prefix in
+    let now
+    = ap groups_of c.deref.ensures.value ∙ c.in_ok-push_groups.ensures
+    ∙ ap (λ es. groups_of c.args.pending.now.items ++ groups es) rest in
     let start : c.len-start.result ≡ length c.args.pending.now.items = omega arith in
-    let children = new-groups c.args.pending.now.items c.deref.result.now (groups (below (at_depth c.args.group.now.depth c.args.group.now.entries.now))) c.len-start.result now start in
+    let children
+    = new-groups c.args.pending.now.items c.deref.result.now
+    (groups (below (at_depth c.args.group.now.depth c.args.group.now.entries.now)))
+    c.len-start.result now start in
     λ i. record {
       byte = c.args.group.now.byte;
       prefix = c.common_prefix-prefix.ensures.prefix i;
@@ -25,4 +33,6 @@ returns-clause-node c =
 pub returns-clause-pending : goal.returns-clause-pending
 returns-clause-pending c =
     c.in_ok-push_groups.ensures
-    ∙ ap (λ es. groups_of c.args.pending.now.items ++ groups es) (below-shown c.args.group.now.depth c.args.group.now.entries.now c.common_prefix-prefix.result.now c.common_prefix-prefix.ensures.prefix)
+    ∙ ap (λ es. groups_of c.args.pending.now.items ++ groups es)
+    (below-shown c.args.group.now.depth c.args.group.now.entries.now
+    c.common_prefix-prefix.result.now c.common_prefix-prefix.ensures.prefix)

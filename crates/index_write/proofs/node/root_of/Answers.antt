@@ -11,9 +11,13 @@ push_groups-requires c = subst Rises (sym (at_depth-zero c.args.entries.now)) c.
 pub returns-clause-node : goal.returns-clause-node
 returns-clause-node c =
     let rest = at_depth-zero c.args.entries.now in
-    let now = ap groups_of c.deref.ensures.value ∙ c.in_ok-push_groups.ensures ∙ ap (λ es. groups_of c.args.pending.now.items ++ groups es) rest in
+    let now
+    = ap groups_of c.deref.ensures.value ∙ c.in_ok-push_groups.ensures
+    ∙ ap (λ es. groups_of c.args.pending.now.items ++ groups es) rest in
     let start : c.len-start.result ≡ length c.args.pending.now.items = omega arith in
-    let children = new-groups c.args.pending.now.items c.deref.result.now (groups (entries_shown c.args.entries.now)) c.len-start.result now start in
+    let children
+    = new-groups c.args.pending.now.items c.deref.result.now
+    (groups (entries_shown c.args.entries.now)) c.len-start.result now start in
     λ i. record {
       byte = 0;
       prefix = [];
@@ -23,4 +27,6 @@ returns-clause-node c =
 
 pub returns-clause-pending : goal.returns-clause-pending
 returns-clause-pending c =
-    c.in_ok-push_groups.ensures ∙ ap (λ es. groups_of c.args.pending.now.items ++ groups es) (at_depth-zero c.args.entries.now)
+    c.in_ok-push_groups.ensures
+    ∙ ap (λ es. groups_of c.args.pending.now.items ++ groups es)
+    (at_depth-zero c.args.entries.now)

@@ -11,7 +11,9 @@ loop-line-preserved c =
     let l = c.loop-line in
     let one : MapSymbol = c.line-item.result in
     let before = map global_name (take l.line-index all) in
-    let more : before ++ option_copied c.global_name.result ∷ [] ≡ map global_name (take (l.line-index + 1) all) =
+    let more : before ++ option_copied c.global_name.result ∷ []
+    ≡ map global_name (take (l.line-index + 1) all)
+    =
     ap (λ name. before ++ name ∷ []) c.global_name.ensures
     ∙ ap (λ (y : MapSymbol). before ++ global_name y ∷ []) c.line-item.is
     ∙ sym (map_more global_name all l.line-index one c.loop-line-test.true) in

@@ -20,7 +20,17 @@ returns c =
     record {
       crc = field-here t0 w0 c.split_at_byte.ensures.before;
       name = field-later t0 t1 w1 0 e1 (field-here t1 w1 c.split_at_byte-2.ensures.before);
-      owner = field-later t0 t1 w2 1 e1 (field-later t1 t2 w2 0 e2 (field-here t2 w2 c.split_at_byte-3.ensures.before));
-      kind = field-later t0 t1 w3 2 e1 (field-later t1 t2 w3 1 e2 (field-later t2 t3 w3 0 e3 (field-here t3 w3 c.split_at_byte-4.ensures.before)));
-      space = field-later t0 t1 w4 3 e1 (field-later t1 t2 w4 2 e2 (field-later t2 t3 w4 1 e3 (field-later t3 t4 w4 0 e4 (field-here t4 w4 c.split_at_byte-5.ensures.before))));
+      owner
+          = field-later t0 t1 w2 1 e1
+          (field-later t1 t2 w2 0 e2 (field-here t2 w2 c.split_at_byte-3.ensures.before));
+      kind
+          = field-later t0 t1 w3 2 e1
+          (field-later t1 t2 w3 1 e2
+          (field-later t2 t3 w3 0 e3 (field-here t3 w3 c.split_at_byte-4.ensures.before)));
+      space
+          = field-later t0 t1 w4 3 e1
+          (field-later t1 t2 w4 2 e2
+          (field-later t2 t3 w4 1 e3
+          (field-later t3 t4 w4 0 e4
+          (field-here t4 w4 c.split_at_byte-5.ensures.before))));
     }

@@ -12,5 +12,6 @@ returns-in-TooLarge g c =
     let new = g.E.Out.seen c.write_around-in-TooLarge.new.err in
     subst (λ e. WriteAnswers (end_line e) old new answer) (sym c.in-TooLarge.is)
     (subst (λ text. WriteAnswers text old new answer)
-    (ap (λ p. (codes "kmod: " ++ p) ++ codes ": too large\n") c.as_bytes-in-TooLarge.ensures ∙ too_large-pieces c.in-TooLarge.path)
+    (ap (λ p. (codes "kmod: " ++ p) ++ codes ": too large\n") c.as_bytes-in-TooLarge.ensures
+    ∙ too_large-pieces c.in-TooLarge.path)
     c.write_around-in-TooLarge.ensures)

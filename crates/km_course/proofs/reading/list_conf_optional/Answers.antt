@@ -14,13 +14,23 @@ returns-in_err-named g c = λ out err.
     wants _ _ _ _ p.1 p.2
 
 pub returns-in-Ok : goal.returns-in-Ok
-returns-in-Ok g c = λ out err. list_ok (value []) is_conf_name c.args.dir.now c.in-Ok.names (g.F.Reads.seen c.args.files.now) (g.F.Reads.seen c.list_conf.new.self) out err c.in-Ok.ensures.answers
+returns-in-Ok g c =
+    λ out err. list_ok (value []) is_conf_name c.args.dir.now c.in-Ok.names
+    (g.F.Reads.seen c.args.files.now) (g.F.Reads.seen c.list_conf.new.self) out err
+    c.in-Ok.ensures.answers
 
 pub returns-in-Absent : goal.returns-in-Absent
 returns-in-Absent g c = λ out err. rw c.new.ensures
-    (list_absent is_conf_name c.args.dir.now [] (g.F.Reads.seen c.args.files.now) (g.F.Reads.seen c.list_conf.new.self) out err
-    (subst (λ a. ListAnswers is_conf_name c.args.dir.now (g.F.Reads.seen c.args.files.now) (g.F.Reads.seen c.list_conf.new.self) (Err a)) c.in-Absent.is c.in-Err.ensures.answers))
+    (list_absent is_conf_name c.args.dir.now [] (g.F.Reads.seen c.args.files.now)
+    (g.F.Reads.seen c.list_conf.new.self) out err
+    (subst (λ a. ListAnswers is_conf_name c.args.dir.now (g.F.Reads.seen c.args.files.now)
+    (g.F.Reads.seen c.list_conf.new.self) (Err a)) c.in-Absent.is
+    c.in-Err.ensures.answers))
 
 pub returns-in-Failed : goal.returns-in-Failed
-returns-in-Failed g c = λ out err. rw c.stop_at.ensures (rw (c.in_ok-named.ensures ∙ c.as_bytes.ensures)
-    (list_refused (value []) is_conf_name c.args.dir.now c.in-Err.answer (g.F.Reads.seen c.args.files.now) (g.F.Reads.seen c.list_conf.new.self) out err conf_is_path (λ is. absurd (present c.in-Err.answer c.in-Failed.is is)) c.in-Err.ensures.answers))
+returns-in-Failed g c =
+    λ out err. rw c.stop_at.ensures (rw (c.in_ok-named.ensures ∙ c.as_bytes.ensures)
+    (list_refused (value []) is_conf_name c.args.dir.now c.in-Err.answer
+    (g.F.Reads.seen c.args.files.now) (g.F.Reads.seen c.list_conf.new.self) out err
+    conf_is_path (λ is. absurd (present c.in-Err.answer c.in-Failed.is is))
+    c.in-Err.ensures.answers))

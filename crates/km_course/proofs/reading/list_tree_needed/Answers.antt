@@ -13,8 +13,14 @@ returns-in_err-named g c = λ out err.
     wants _ _ _ _ p.1 p.2
 
 pub returns-in-Ok : goal.returns-in-Ok
-returns-in-Ok g c = λ out err. list_ok (end (NoFile c.args.dir.now)) is_path c.args.dir.now c.in-Ok.paths (g.F.Reads.seen c.args.files.now) (g.F.Reads.seen c.list_tree.new.self) out err c.in-Ok.ensures.answers
+returns-in-Ok g c =
+    λ out err. list_ok (end (NoFile c.args.dir.now)) is_path c.args.dir.now c.in-Ok.paths
+    (g.F.Reads.seen c.args.files.now) (g.F.Reads.seen c.list_tree.new.self) out err
+    c.in-Ok.ensures.answers
 
 pub returns-in-Err : goal.returns-in-Err
-returns-in-Err g c = λ out err. rw c.stop_at.ensures (rw (c.in_ok-named.ensures ∙ c.as_bytes.ensures)
-    (list_refused (end (NoFile c.args.dir.now)) is_path c.args.dir.now c.in-Err.answer (g.F.Reads.seen c.args.files.now) (g.F.Reads.seen c.list_tree.new.self) out err (λ name is. is) (λ _. refl) c.in-Err.ensures.answers))
+returns-in-Err g c =
+    λ out err. rw c.stop_at.ensures (rw (c.in_ok-named.ensures ∙ c.as_bytes.ensures)
+    (list_refused (end (NoFile c.args.dir.now)) is_path c.args.dir.now c.in-Err.answer
+    (g.F.Reads.seen c.args.files.now) (g.F.Reads.seen c.list_tree.new.self) out err
+    (λ name is. is) (λ _. refl) c.in-Err.ensures.answers))

@@ -12,8 +12,14 @@ returns-in_err-named-clause-follows g c = λ out err.
     wants _ _ _ _ p.1 p.2
 
 pub returns-in-Ok-clause-follows : goal.returns-in-Ok-clause-follows
-returns-in-Ok-clause-follows g c = λ out err. read_ok (end (NoFile c.args.path.now)) c.args.path.now c.in-Ok.bytes (g.F.Reads.seen c.args.files.now) (g.F.Reads.seen c.read.new.self) out err c.in-Ok.ensures.answers
+returns-in-Ok-clause-follows g c =
+    λ out err. read_ok (end (NoFile c.args.path.now)) c.args.path.now c.in-Ok.bytes
+    (g.F.Reads.seen c.args.files.now) (g.F.Reads.seen c.read.new.self) out err
+    c.in-Ok.ensures.answers
 
 pub returns-in-Err-clause-follows : goal.returns-in-Err-clause-follows
-returns-in-Err-clause-follows g c = λ out err. rw c.stop_at.ensures (rw (c.in_ok-named.ensures ∙ c.as_bytes.ensures)
-    (read_refused (end (NoFile c.args.path.now)) c.args.path.now c.in-Err.answer (g.F.Reads.seen c.args.files.now) (g.F.Reads.seen c.read.new.self) out err (λ _. refl) c.in-Err.ensures.answers))
+returns-in-Err-clause-follows g c =
+    λ out err. rw c.stop_at.ensures (rw (c.in_ok-named.ensures ∙ c.as_bytes.ensures)
+    (read_refused (end (NoFile c.args.path.now)) c.args.path.now c.in-Err.answer
+    (g.F.Reads.seen c.args.files.now) (g.F.Reads.seen c.read.new.self) out err (λ _. refl)
+    c.in-Err.ensures.answers))

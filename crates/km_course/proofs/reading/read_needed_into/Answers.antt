@@ -14,8 +14,13 @@ returns-in_err-named-clause-follows g c = λ out err.
 
 pub returns-in-Ok-clause-follows : goal.returns-in-Ok-clause-follows
 returns-in-Ok-clause-follows g c = λ out err. left_value _
-    (read_ok (end (NoFile c.args.path.now)) c.args.path.now c.read_into.new.buffer (g.F.Reads.seen c.args.files.now) (g.F.Reads.seen c.read_into.new.self) out err c.in-Ok.ensures.answers)
+    (read_ok (end (NoFile c.args.path.now)) c.args.path.now c.read_into.new.buffer
+    (g.F.Reads.seen c.args.files.now) (g.F.Reads.seen c.read_into.new.self) out err
+    c.in-Ok.ensures.answers)
 
 pub returns-in-Err-clause-follows : goal.returns-in-Err-clause-follows
-returns-in-Err-clause-follows g c = λ out err. rw c.stop_at.ensures (rw (c.in_ok-named.ensures ∙ c.as_bytes.ensures) (left_none _
-    (read_refused (end (NoFile c.args.path.now)) c.args.path.now c.in-Err.answer (g.F.Reads.seen c.args.files.now) (g.F.Reads.seen c.read_into.new.self) out err (λ _. refl) c.in-Err.ensures.answers)))
+returns-in-Err-clause-follows g c =
+    λ out err. rw c.stop_at.ensures (rw (c.in_ok-named.ensures ∙ c.as_bytes.ensures) (left_none _
+    (read_refused (end (NoFile c.args.path.now)) c.args.path.now c.in-Err.answer
+    (g.F.Reads.seen c.args.files.now) (g.F.Reads.seen c.read_into.new.self) out err
+    (λ _. refl) c.in-Err.ensures.answers)))

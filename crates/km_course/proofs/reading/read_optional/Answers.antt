@@ -13,13 +13,20 @@ returns-in_err-named-clause-follows g c = λ out err.
     wants _ _ _ _ p.1 p.2
 
 pub returns-in-Ok-clause-follows : goal.returns-in-Ok-clause-follows
-returns-in-Ok-clause-follows g c = λ out err. read_ok (value []) c.args.path.now c.in-Ok.bytes (g.F.Reads.seen c.args.files.now) (g.F.Reads.seen c.read.new.self) out err c.in-Ok.ensures.answers
+returns-in-Ok-clause-follows g c =
+    λ out err. read_ok (value []) c.args.path.now c.in-Ok.bytes (g.F.Reads.seen c.args.files.now)
+    (g.F.Reads.seen c.read.new.self) out err c.in-Ok.ensures.answers
 
 pub returns-in-Absent-clause-follows : goal.returns-in-Absent-clause-follows
 returns-in-Absent-clause-follows g c = λ out err. rw c.new.ensures
-    (read_absent c.args.path.now [] (g.F.Reads.seen c.args.files.now) (g.F.Reads.seen c.read.new.self) out err
-    (subst (λ a. ReadAnswers c.args.path.now (g.F.Reads.seen c.args.files.now) (g.F.Reads.seen c.read.new.self) (Err a)) c.in-Absent.is c.in-Err.ensures.answers))
+    (read_absent c.args.path.now [] (g.F.Reads.seen c.args.files.now)
+    (g.F.Reads.seen c.read.new.self) out err
+    (subst (λ a. ReadAnswers c.args.path.now (g.F.Reads.seen c.args.files.now)
+    (g.F.Reads.seen c.read.new.self) (Err a)) c.in-Absent.is c.in-Err.ensures.answers))
 
 pub returns-in-Failed-clause-follows : goal.returns-in-Failed-clause-follows
-returns-in-Failed-clause-follows g c = λ out err. rw c.stop_at.ensures (rw (c.in_ok-named.ensures ∙ c.as_bytes.ensures)
-    (read_refused (value []) c.args.path.now c.in-Err.answer (g.F.Reads.seen c.args.files.now) (g.F.Reads.seen c.read.new.self) out err (λ is. absurd (present c.in-Err.answer c.in-Failed.is is)) c.in-Err.ensures.answers))
+returns-in-Failed-clause-follows g c =
+    λ out err. rw c.stop_at.ensures (rw (c.in_ok-named.ensures ∙ c.as_bytes.ensures)
+    (read_refused (value []) c.args.path.now c.in-Err.answer (g.F.Reads.seen c.args.files.now)
+    (g.F.Reads.seen c.read.new.self) out err
+    (λ is. absurd (present c.in-Err.answer c.in-Failed.is is)) c.in-Err.ensures.answers))

@@ -9,4 +9,5 @@ returns-in-Some-clause-lines c = lines-found _ _ c.in-Some.ensures
 pub returns-in-None-clause-lines : goal.returns-in-None-clause-lines
 returns-in-None-clause-lines c =
     let text = c.args.text.now in
-    lines-none text _ c.requires c.in-None.ensures (take_rest text (length text) ∙ drop_all (length text) text (omega arith))
+    lines-none text _ c.requires c.in-None.ensures
+    (take_rest text (length text) ∙ drop_all (length text) text (omega arith))

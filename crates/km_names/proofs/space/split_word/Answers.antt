@@ -12,6 +12,8 @@ unfolding rest_after_word first_word
 returns-clause-rest c =
     let text = c.args.text.now in
     let end : ℕ = c.word_length-end.result in
-    let word : take end text ≡ first_word text = ap (λ n. take n text) c.word_length-end.ensures.place in
-    let e : end ≡ length (first_word text) = sym (length-take-le end text c.word_length-end.ensures.within) ∙ ap length word in
+    let word : take end text ≡ first_word text
+    = ap (λ n. take n text) c.word_length-end.ensures.place in
+    let e : end ≡ length (first_word text)
+    = sym (length-take-le end text c.word_length-end.ensures.within) ∙ ap length word in
     c.trimmed.ensures ∙ ap trimmed (take_rest text end ∙ ap (λ n. drop n text) e)

@@ -3,7 +3,9 @@ use Rattle.km_names.specs.Space.{is_space}
 use Rattle.km_names.proofs.space.trimmed_end.Given as goal
 
 abbrev pub invariant-loop-end : goal.invariant-loop-end
-invariant-loop-end l = (l.end ≤ length l.text) × ((k : ℕ) → l.end ≤ k → k < length l.text → is_space (get_or l.text k 0) ≡ true)
+invariant-loop-end l =
+    (l.end ≤ length l.text)
+    × ((k : ℕ) → l.end ≤ k → k < length l.text → is_space (get_or l.text k 0) ≡ true)
 
 abbrev pub decreases-loop-end : goal.decreases-loop-end
 decreases-loop-end l = l.end

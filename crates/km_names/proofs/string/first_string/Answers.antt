@@ -9,10 +9,12 @@ pub returns-in-Some-clause-string : goal.returns-in-Some-clause-string
 unfolding string_of
 returns-in-Some-clause-string c =
     let bytes = c.args.bytes.now in
-    ap (option_map (λ n. take n bytes)) (first_byte-position (is_byte 0) bytes (Some c.in-Some.end) c.in-Some.ensures)
+    ap (option_map (λ n. take n bytes))
+    (first_byte-position (is_byte 0) bytes (Some c.in-Some.end) c.in-Some.ensures)
 
 pub returns-in-None-clause-string : goal.returns-in-None-clause-string
 unfolding string_of
 returns-in-None-clause-string c =
     let bytes = c.args.bytes.now in
-    ap (option_map (λ n. take n bytes)) (first_byte-position (is_byte 0) bytes None c.in-None.ensures)
+    ap (option_map (λ n. take n bytes))
+    (first_byte-position (is_byte 0) bytes None c.in-None.ensures)

@@ -1,4 +1,5 @@
-use Rattle.std.proofs.Common.{◌≡◌, ◌+◌, ◌-◌, ◌++◌, length, take, drop, arith, sym, ap, subst, ◌∙◌, length-drop}
+use Rattle.std.proofs.Common.{◌≡◌, ◌+◌, ◌-◌, ◌++◌, length, take, drop, arith, sym, ap, subst, ◌∙◌}
+use Rattle.std.proofs.Common.{length-drop}
 use Rattle.std.proofs.lemmas.List.{take_rest}
 use Rattle.std.proofs.Math.Seq.{take-add}
 use Rattle.std.specs.Io.KnownBytes.{Appends}
@@ -14,6 +15,13 @@ loop-written-preserved g c =
     let rest = take_rest all at in
     let more : take at all ++ take n (take (length all - at) (drop at all)) ≡ take (at + n) all =
     ap (λ r. take at all ++ take n r) rest ∙ sym (take-add at n all) in (
-      omega (arith, c.in-Ok.ensures.bound, ap length rest, length-drop at all, c.loop-written.invariant.0),
-      subst (Appends _ _) more (Appends-trans _ _ _ _ _ c.loop-written.invariant.1 c.in-Ok.ensures.bytes),
+      omega (
+        arith,
+        c.in-Ok.ensures.bound,
+        ap length rest,
+        length-drop at all,
+        c.loop-written.invariant.0,
+      ),
+      subst (Appends _ _) more
+          (Appends-trans _ _ _ _ _ c.loop-written.invariant.1 c.in-Ok.ensures.bytes),
     )

@@ -10,7 +10,10 @@ returns g c = λ files.
     (world files (g.O.Out.seen c.trial-outcome.new.out) (g.E.Out.seen c.args.err.now))
     (g.E.Out.seen c.conclude.new.err) c.trial-outcome.result c.conclude.result (
       record { out = g.met.O.Out.within c.args.out.now; err = g.met.E.Out.within c.args.err.now },
-      record { out = g.met.O.Out.within c.trial-outcome.new.out; err = g.met.E.Out.within c.conclude.new.err },
+      record {
+        out = g.met.O.Out.within c.trial-outcome.new.out;
+        err = g.met.E.Out.within c.conclude.new.err;
+      },
     )
     (c.trial-outcome.ensures files (g.E.Out.seen c.args.err.now))
     c.conclude.ensures

@@ -5,4 +5,5 @@ use Rattle.kmod_words.specs.Rules.{rule_for}
 use Rattle.kmod_words.proofs.arguments.command.Given as goal
 
 abbrev pub invariant-loop-argument : goal.invariant-loop-argument
-invariant-loop-argument l = app_of l.command ≡ command l.name (map rule_for (take l.argument-index l.arguments))
+invariant-loop-argument l =
+    app_of l.command ≡ command l.name (map rule_for (take l.argument-index l.arguments))

@@ -11,9 +11,13 @@ unfolding builtin_alias_command
 returns-in-Some c =
     let given : List Text = map (λ (t : Bor Text). t.now) c.as_slice.result.now in
     let rows = option_map (λ (m : ArgMatches). rows_of (found_of m)) in
-    let words = ap (map (λ (t : Bor Text). t.now)) c.as_slice.ensures.value ∙ c.in_ok-texts.ensures in
-    let same = asked-some builtin_alias_asked (app_of c.in_ok-command.command) builtin_alias_command given c.args.words.now c.in_ok-command.ensures words
-    (rows c.in_ok-matches.field-0) (rows_of (found_of c.in-Some.matches)) c.in_ok-matches.ensures (ap rows c.in-Some.is) in
+    let words
+    = ap (map (λ (t : Bor Text). t.now)) c.as_slice.ensures.value ∙ c.in_ok-texts.ensures in
+    let same
+    = asked-some builtin_alias_asked (app_of c.in_ok-command.command) builtin_alias_command
+    given c.args.words.now c.in_ok-command.ensures words
+    (rows c.in_ok-matches.field-0) (rows_of (found_of c.in-Some.matches)) c.in_ok-matches.ensures
+    (ap rows c.in-Some.is) in
     IfOk-weaker c.asked.result _ _ (λ asked is. is ∙ same) c.asked.ensures
 
 pub returns : goal.returns
@@ -21,6 +25,8 @@ unfolding builtin_alias_command
 returns c =
     let given : List Text = map (λ (t : Bor Text). t.now) c.as_slice.result.now in
     let rows = option_map (λ (m : ArgMatches). rows_of (found_of m)) in
-    let words = ap (map (λ (t : Bor Text). t.now)) c.as_slice.ensures.value ∙ c.in_ok-texts.ensures in
-    asked-none builtin_alias_asked (app_of c.in_ok-command.command) builtin_alias_command given c.args.words.now c.in_ok-command.ensures words
+    let words
+    = ap (map (λ (t : Bor Text). t.now)) c.as_slice.ensures.value ∙ c.in_ok-texts.ensures in
+    asked-none builtin_alias_asked (app_of c.in_ok-command.command) builtin_alias_command given
+    c.args.words.now c.in_ok-command.ensures words
     (rows c.in_ok-matches.field-0) c.in_ok-matches.ensures (ap rows c.in-None.is)

@@ -6,4 +6,7 @@ use Rattle.kmod_words.proofs.matches.is_given.Goals as goal
 
 pub returns : goal.returns
 unfolding is_given
-returns c = c.is_from_words.ensures ∙ ap is_from_words (c.value_source.ensures ∙ source-rows (found_of c.args.matches.now) c.args.name.now)
+returns c =
+    c.is_from_words.ensures
+    ∙ ap is_from_words
+    (c.value_source.ensures ∙ source-rows (found_of c.args.matches.now) c.args.name.now)

@@ -10,8 +10,10 @@ pub returns-in-Ok : goal.returns-in-Ok
 returns-in-Ok c =
     let app : App = app_of c.args.command in
     let words : List Text = map (λ (w : Bor (List ℕ)). w.now) c.args.words.now in
-    let simple : is_simple app ≡ true = (and_parts (is_simple app) (is_free_app (built app)) c.requires).0 in
-    without_fault app words (rows_of (found_of c.in-Ok.matches)) (c.in-Ok.ensures.kinds c.requires) (c.in-Ok.ensures.matches simple).0
+    let simple : is_simple app ≡ true
+    = (and_parts (is_simple app) (is_free_app (built app)) c.requires).0 in
+    without_fault app words (rows_of (found_of c.in-Ok.matches)) (c.in-Ok.ensures.kinds c.requires)
+    (c.in-Ok.ensures.matches simple).0
 
 pub returns : goal.returns
 returns c =

@@ -14,9 +14,11 @@ returns c =
     let first : texts c.match-value_of.keys.items ≡ option_to_list (value_of (codes "field") rows) =
     elim c.match-value_of.branch [
       | in-Some+in_ok-push w ↦
-          ap (λ v. texts v.items) w.keys-is ∙ ap texts w.in_ok-push.ensures.items ∙ ap (λ l. texts (l ++ w.in-Some.key ∷ [])) c.new-keys.ensures.items
+          ap (λ v. texts v.items) w.keys-is ∙ ap texts w.in_ok-push.ensures.items
+          ∙ ap (λ l. texts (l ++ w.in-Some.key ∷ [])) c.new-keys.ensures.items
           ∙ ap option_to_list w.in-Some.ensures
-      | in_default w ↦ ap (λ v. texts v.items) w.keys-is ∙ ap texts c.new-keys.ensures.items ∙ ap option_to_list w.in_default.ensures
+      | in_default w ↦ ap (λ v. texts v.items) w.keys-is ∙ ap texts c.new-keys.ensures.items
+          ∙ ap option_to_list w.in_default.ensures
     ] in
     let author = key_by_flag rows (codes "author") (codes "author") in
     let description = key_by_flag rows (codes "description") (codes "description") in

@@ -8,7 +8,11 @@ pub returns : goal.returns
 returns c =
     let rows = rows_of (found_of c.args.matches.now) in
     c.mode_by_flags.ensures
-    ∙ ap (λ (b : Bool). mode_by_flags b c.is_given-2.result c.is_given-3.result c.is_given-4.result) c.is_given.ensures
-    ∙ ap (λ (b : Bool). mode_by_flags (is_given (codes "dry-run") rows) b c.is_given-3.result c.is_given-4.result) c.is_given-2.ensures
-    ∙ ap (λ (b : Bool). mode_by_flags (is_given (codes "dry-run") rows) (is_given (codes "show-depends") rows) b c.is_given-4.result) c.is_given-3.ensures
-    ∙ ap (mode_by_flags (is_given (codes "dry-run") rows) (is_given (codes "show-depends") rows) (is_given (codes "resolve-alias") rows)) c.is_given-4.ensures
+    ∙ ap (λ (b : Bool). mode_by_flags b c.is_given-2.result c.is_given-3.result c.is_given-4.result)
+    c.is_given.ensures
+    ∙ ap (λ (b : Bool). mode_by_flags (is_given (codes "dry-run") rows) b c.is_given-3.result
+    c.is_given-4.result) c.is_given-2.ensures
+    ∙ ap (λ (b : Bool). mode_by_flags (is_given (codes "dry-run") rows)
+    (is_given (codes "show-depends") rows) b c.is_given-4.result) c.is_given-3.ensures
+    ∙ ap (mode_by_flags (is_given (codes "dry-run") rows) (is_given (codes "show-depends") rows)
+    (is_given (codes "resolve-alias") rows)) c.is_given-4.ensures

@@ -12,7 +12,9 @@ invariant_of-result c =
     let load = c.in_ok-load.ensures in
     record {
       pages = c.args.choice.now.region.pages;
-      fits = fits-as c.args.choice.now.mode _ _ _ _ _ _ load.system_map load.image c.is_given-4.ensures c.requires.fits;
+      fits
+          = fits-as c.args.choice.now.mode _ _ _ _ _ _ load.system_map load.image
+          c.is_given-4.ensures c.requires.fits;
     }
 
 pub returns : goal.returns
@@ -21,7 +23,8 @@ returns c = λ fits.
     let region = c.args.choice.now.region in
     let version = c.in_ok-version.ensures ∙ c.as_bytes.ensures.value in
     let load = c.in_ok-load.ensures in
-    let make : (m i : Option (List ℕ)) (p : Bool) → T (goes_with mode m i p) → ModprobeWords = λ m i p f. record {
+    let make : (m i : Option (List ℕ)) (p : Bool) → T (goes_with mode m i p) → ModprobeWords
+    = λ m i p f. record {
       mode = mode;
       all = c.is_given.result;
       use_blacklist = c.is_given-2.result;
@@ -40,7 +43,8 @@ returns c = λ fits.
       pages = c.result-2-1.given.0;
       fits = f;
     } in
-    made-of mode _ _ _ _ _ _ load.system_map load.image c.is_given-4.ensures make c.result-2-1.given.1.0 fits
+    made-of mode _ _ _ _ _ _ load.system_map load.image c.is_given-4.ensures make
+    c.result-2-1.given.1.0 fits
     ∙ (λ i. record {
       mode = mode;
       all = c.is_given.ensures i;

@@ -1,4 +1,5 @@
-use Rattle.laws_headline.proofs.NeededLemmas.{alone-refused, command-refused, earlier-alone, listed-left_out, no-address, other-refused}
+use Rattle.laws_headline.proofs.NeededLemmas.{alone-refused, command-refused, earlier-alone}
+use Rattle.laws_headline.proofs.NeededLemmas.{listed-left_out, no-address, other-refused}
 use Rattle.laws_headline.proofs.laws.headline_premises_are_needed.Goals as goal
 
 pub returns : goal.returns

@@ -1,5 +1,6 @@
 use Rattle.laws_planned_loads.proofs.LoadLemmas.{loads-are-of-machine}
-use Rattle.laws_planned_loads.proofs.ListedLemmas.{listed-are-of-machine, listed-loads-are-of-machine}
+use Rattle.laws_planned_loads.proofs.ListedLemmas.{listed-are-of-machine}
+use Rattle.laws_planned_loads.proofs.ListedLemmas.{listed-loads-are-of-machine}
 use Rattle.laws_planned_loads.proofs.laws.loads_are_of_machines.Goals as goal
 
 pub returns-clause-planned : goal.returns-clause-planned

@@ -14,10 +14,22 @@ loop-path-preserved c =
     let words = c.args.search.now in
     let modules = c.args.modules.now in
     let path = c.path-item.result in
-    let made : Candidate = record { name = c.into_vec-name.result; rank = c.rank.result; path = c.as_bytes-bytes.result } in
-    let is : IsCandidate words made = record { name = c.into_vec-name.ensures ∙ c.in_ok-module_name.ensures ∙ ap module_name (sym c.as_bytes-bytes.ensures); rank_is = c.rank.ensures words c.in_ok-places.ensures } in (
-      ap (λ cs. map path_of cs ++ referents (drop (l.path-index + 1) modules)) c.in_ok-push.ensures.items
-          ∙ path-more l.list.items modules l.path-index path made (omega arith) c.path-item.is c.as_bytes-bytes.ensures
+    let made : Candidate
+    = record
+    { name = c.into_vec-name.result; rank = c.rank.result; path = c.as_bytes-bytes.result }
+    in
+    let is : IsCandidate words made
+    = record {
+      name
+          = c.into_vec-name.ensures ∙ c.in_ok-module_name.ensures
+          ∙ ap module_name (sym c.as_bytes-bytes.ensures);
+      rank_is = c.rank.ensures words c.in_ok-places.ensures;
+    } in (
+      ap (λ cs. map path_of cs ++ referents (drop (l.path-index + 1) modules))
+          c.in_ok-push.ensures.items
+          ∙ path-more l.list.items modules l.path-index path made (omega arith) c.path-item.is
+          c.as_bytes-bytes.ensures
           ∙ l.invariant.0,
-      All-same (IsCandidate words) c.push.new.self.items _ c.in_ok-push.ensures.items (All-push (IsCandidate words) l.list.items made l.invariant.1 is),
+      All-same (IsCandidate words) c.push.new.self.items _ c.in_ok-push.ensures.items
+          (All-push (IsCandidate words) l.list.items made l.invariant.1 is),
     )

@@ -6,4 +6,5 @@ use Rattle.mod_tree.proofs.chosen.candidates.Given as goal
 
 abbrev pub invariant-loop-path : goal.invariant-loop-path
 invariant-loop-path l =
-    (map path_of l.list.items ++ referents (drop l.path-index l.modules) ≡ referents l.modules) × All (IsCandidate l.search) l.list.items
+    (map path_of l.list.items ++ referents (drop l.path-index l.modules) ≡ referents l.modules)
+    × All (IsCandidate l.search) l.list.items

@@ -11,13 +11,24 @@ returns-then-not-is_module_path c =
     let text = c.loop-rest.rest.now in
     let after = c.split_at_separator.result.1.now in
     let some : 0 < length text = grind arith in
-    let whole = needed-step text _ c.split_at_separator.result.0.now after some c.if-rest-ne32.false (take_rest text 1) c.split_at_separator.ensures.before c.split_at_separator.ensures.rest in
-    sym (sym c.loop-rest.invariant ∙ whole ∙ ap (λ b. b && are_needed (slice_split (λ b. b == 32) after)) (sym c.is_module_path.ensures ∙ c.if-not-is_module_path.true))
+    let whole
+    = needed-step text _ c.split_at_separator.result.0.now after some c.if-rest-ne32.false
+    (take_rest text 1) c.split_at_separator.ensures.before c.split_at_separator.ensures.rest
+    in
+    sym (sym c.loop-rest.invariant ∙ whole
+    ∙ ap (λ b. b && are_needed (slice_split (λ b. b == 32) after))
+    (sym c.is_module_path.ensures ∙ c.if-not-is_module_path.true))
 
 pub loop-rest-preserved : goal.loop-rest-preserved
 loop-rest-preserved c =
     let text = c.loop-rest.rest.now in
     let after = c.split_at_separator.result.1.now in
     let some : 0 < length text = grind arith in
-    let whole = needed-step text _ c.split_at_separator.result.0.now after some c.if-rest-ne32.false (take_rest text 1) c.split_at_separator.ensures.before c.split_at_separator.ensures.rest in
-    sym (whole ∙ ap (λ b. b && are_needed (slice_split (λ b. b == 32) after)) (sym c.is_module_path.ensures ∙ c.if-not-is_module_path.false)) ∙ c.loop-rest.invariant
+    let whole
+    = needed-step text _ c.split_at_separator.result.0.now after some c.if-rest-ne32.false
+    (take_rest text 1) c.split_at_separator.ensures.before c.split_at_separator.ensures.rest
+    in
+    sym (whole
+    ∙ ap (λ b. b && are_needed (slice_split (λ b. b == 32) after))
+    (sym c.is_module_path.ensures ∙ c.if-not-is_module_path.false))
+    ∙ c.loop-rest.invariant

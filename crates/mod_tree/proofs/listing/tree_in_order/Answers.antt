@@ -13,4 +13,6 @@ returns c =
     let made = c.in_ok-list.ensures in
     IfOk-weaker c.listed_paths.result _ _ (λ tree is words ms has.
     is ∙ ap (map listed_path) c.as_slice.ensures.value
-    ∙ sorted-tree lines words ms (referents c.args.chosen.now) _ _ has made.paths (made.each lines c.in_ok-places.ensures) c.in_ok-sort.ensures.permutation c.in_ok-sort.ensures.sorted) c.listed_paths.ensures
+    ∙ sorted-tree lines words ms (referents c.args.chosen.now) _ _ has made.paths
+    (made.each lines c.in_ok-places.ensures) c.in_ok-sort.ensures.permutation
+    c.in_ok-sort.ensures.sorted) c.listed_paths.ensures

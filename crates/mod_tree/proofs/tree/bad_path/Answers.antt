@@ -9,4 +9,6 @@ pub returns : goal.returns
 unfolding bad_path
 returns c =
     let start : c.loop-at.at ≡ 0 = omega arith in
-    c.loop-at.invariant.0 ∙ ap (λ (n : ℕ). least (filter (list_any is_bad_byte) (referents (drop n c.args.modules.now)))) start
+    c.loop-at.invariant.0
+    ∙ ap (λ (n : ℕ). least
+    (filter (list_any is_bad_byte) (referents (drop n c.args.modules.now)))) start

@@ -6,7 +6,10 @@ use Rattle.mod_tree.specs.Tree.{is_bad_byte, least}
 use Rattle.mod_tree.proofs.tree.bad_path.Given as goal
 
 abbrev pub invariant-loop-at : goal.invariant-loop-at
-invariant-loop-at l = (option_copied l.least ≡ least (filter (list_any is_bad_byte) (referents (drop l.at l.modules)))) × (l.at ≤ length l.modules)
+invariant-loop-at l =
+    (option_copied l.least
+    ≡ least (filter (list_any is_bad_byte) (referents (drop l.at l.modules))))
+    × (l.at ≤ length l.modules)
 
 abbrev pub decreases-loop-at : goal.decreases-loop-at
 decreases-loop-at l = l.at

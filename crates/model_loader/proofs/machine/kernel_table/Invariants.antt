@@ -6,6 +6,9 @@ use Rattle.model_loader.proofs.machine.kernel_table.Given as goal
 
 abbrev pub invariant-loop-export : goal.invariant-loop-export
 invariant-loop-export l = record {
-  kept : (x : List ℕ) → standing_of l.table x ≡ option_map (standing None) (export_named x (map kernel_placed (take l.export-index l.kernel.exports)));
+  kept : (x : List ℕ)
+      → standing_of l.table x
+      ≡ option_map (standing None)
+      (export_named x (map kernel_placed (take l.export-index l.kernel.exports)));
   addressed : find (λ e. is_none e.address) (take l.export-index l.kernel.exports) ≡ None;
 }

@@ -10,5 +10,7 @@ abbrev pub invariant-loop-k : goal.invariant-loop-k
 invariant-loop-k l = record {
   counted : length l.all.items ≡ l.k;
   at : (i j : ℕ) (e : Entry) → i < l.k → slice_get l.entries i ≡ Some e
-      → option_map_or (list_any (nat_eq j)) (slice_get (map (λ (u : Vec ℕ Global). u.items) l.all.items) i) false ≡ list_any (is_bound_at l.table l.places e.free i j) e.needs;
+      → option_map_or (list_any (nat_eq j))
+      (slice_get (map (λ (u : Vec ℕ Global). u.items) l.all.items) i) false
+      ≡ list_any (is_bound_at l.table l.places e.free i j) e.needs;
 }

@@ -1,4 +1,5 @@
-use Rattle.std.proofs.Common.{◌≡◌, ◌∙◌, ◌++◌, ◌∷◌, [], ◌<◌, ◌||◌, ℕ, ap, sym, length, get_or, Vec, Global}
+use Rattle.std.proofs.Common.{◌≡◌, ◌∙◌, ◌++◌, ◌∷◌, [], ◌<◌, ◌||◌, ℕ, ap, sym, length, get_or, Vec}
+use Rattle.std.proofs.Common.{Global}
 use Rattle.std.specs.Prelude.{nat_eq}
 use Rattle.std.specs.List.{list_any}
 use Rattle.model_loader.specs.declared.entry.BoundNeed.{BoundNeed}
@@ -20,13 +21,19 @@ loop-need-preserved c =
     let less : i < length needs = rw (← same) c.loop-need-test.true in
     let is : n ≡ get_or needs i n = rw same at c.need-item.is in
     let old = c.loop-need.bound.items in
-    let next : (j : ℕ) → list_any (nat_eq j) c.match-bound_place.bound.items ≡ (list_any (nat_eq j) old || is_place j (bound_place t places free k n)) =
+    let next : (j : ℕ)
+    → list_any (nat_eq j) c.match-bound_place.bound.items
+    ≡ (list_any (nat_eq j) old || is_place j (bound_place t places free k n))
+    =
     elim c.match-bound_place.branch [
       | in-Some+in_ok-push w ↦
-          place-push old c.match-bound_place.bound.items (bound_place t places free k n) w.in-Some.place (sym c.bound_place.ensures ∙ w.in-Some.is)
+          place-push old c.match-bound_place.bound.items (bound_place t places free k n)
+          w.in-Some.place (sym c.bound_place.ensures ∙ w.in-Some.is)
           (ap (λ (v : Vec ℕ Global). v.items) w.bound-is ∙ w.in_ok-push.ensures.items)
       | in_default w ↦
-          place-none old c.match-bound_place.bound.items (bound_place t places free k n) (sym c.bound_place.ensures ∙ w.in_default.is)
+          place-none old c.match-bound_place.bound.items (bound_place t places free k n)
+          (sym c.bound_place.ensures ∙ w.in_default.is)
           (ap (λ (v : Vec ℕ Global). v.items) w.bound-is)
     ] in
-    bound-more t places free k needs i n old c.match-bound_place.bound.items less is next c.loop-need.invariant
+    bound-more t places free k needs i n old c.match-bound_place.bound.items less is next
+    c.loop-need.invariant

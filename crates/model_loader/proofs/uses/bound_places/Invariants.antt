@@ -6,4 +6,7 @@ use Rattle.model_loader.proofs.uses.bound_places.Given as goal
 
 abbrev pub invariant-loop-need : goal.invariant-loop-need
 invariant-loop-need l =
-    (j : ℕ) → list_any (nat_eq j) l.bound.items ≡ list_any (is_bound_at l.table l.places l.entry.free l.k j) (take l.need-index l.entry.needs)
+    (j : ℕ)
+    → list_any (nat_eq j) l.bound.items
+    ≡ list_any (is_bound_at l.table l.places l.entry.free l.k j)
+    (take l.need-index l.entry.needs)

@@ -11,11 +11,16 @@ loop-entry-preserved c =
     let l = c.loop-entry in
     let entry : Entry = c.entry-item.result in
     let before = stated_names (take l.entry-index entries) in
-    let more : before ++ Some c.as_bytes.result.now ∷ [] ≡ stated_names (take (l.entry-index + 1) entries) =
+    let more : before ++ Some c.as_bytes.result.now ∷ []
+    ≡ stated_names (take (l.entry-index + 1) entries)
+    =
     ap (λ name. before ++ Some name ∷ []) c.as_bytes.ensures
     ∙ ap (λ (e : Entry). before ++ Some e.loaded.name ∷ []) c.entry-item.is
-    ∙ sym (map_more (λ (e : Entry). Some e.loaded.name) entries l.entry-index entry c.loop-entry-test.true) in
+    ∙ sym (map_more (λ (e : Entry). Some e.loaded.name) entries l.entry-index entry
+    c.loop-entry-test.true) in
     record {
-      table = subst (IsTableOf c.push.new.self) more (c.in_ok-push.ensures.ok before l.invariant.table);
+      table
+          = subst (IsTableOf c.push.new.self) more
+          (c.in_ok-push.ensures.ok before l.invariant.table);
       count = c.in_ok-push.ensures.count ∙ ap (λ n. n + 1) l.invariant.count;
     }

@@ -11,7 +11,8 @@ loop-rest-preserved-in_ok-push c =
     let after = c.split_at_byte.result.1.now in
     let value = c.in_ok-from_slice.field-0 in
     ap (λ l. l ++ values_of_key key (fields_of after)) c.in_ok-push.ensures.ok
-    ∙ values_later key c.args.bytes.now c.loop-rest.rest.now c.split_at_byte.result.0.now after c.loop-rest.values (value ∷ [])
+    ∙ values_later key c.args.bytes.now c.loop-rest.rest.now c.split_at_byte.result.0.now after
+    c.loop-rest.values (value ∷ [])
     c.loop-rest.invariant c.split_at_byte.ensures.before c.split_at_byte.ensures.after
     (ap (λ v. v ∷ []) c.in_ok-from_slice.ensures ∙ c.in-Some.ensures)
 
@@ -20,13 +21,18 @@ loop-rest-preserved c =
     let key = c.args.key.now in
     let after = c.split_at_byte.result.1.now in
     sym (ap (λ l. l ++ values_of_key key (fields_of after)) (append-nil c.loop-rest.values))
-    ∙ values_later key c.args.bytes.now c.loop-rest.rest.now c.split_at_byte.result.0.now after c.loop-rest.values []
-    c.loop-rest.invariant c.split_at_byte.ensures.before c.split_at_byte.ensures.after c.in_default.ensures
+    ∙ values_later key c.args.bytes.now c.loop-rest.rest.now c.split_at_byte.result.0.now after
+    c.loop-rest.values []
+    c.loop-rest.invariant c.split_at_byte.ensures.before c.split_at_byte.ensures.after
+    c.in_default.ensures
 
 pub returns : goal.returns
 returns c =
     let key = c.args.key.now in
-    let none = nil_from_length c.loop-rest.rest.now (eqb-true (length c.loop-rest.rest.now) 0 (sym c.loop-rest-test.ensures)) in
+    let none
+    = nil_from_length c.loop-rest.rest.now
+    (eqb-true (length c.loop-rest.rest.now) 0 (sym c.loop-rest-test.ensures)) in
     sym (append-nil c.loop-rest.values)
-    ∙ ap (λ l. c.loop-rest.values ++ l) (sym (ap (λ r. values_of_key key (fields_of r)) none ∙ values-nil key))
+    ∙ ap (λ l. c.loop-rest.values ++ l)
+    (sym (ap (λ r. values_of_key key (fields_of r)) none ∙ values-nil key))
     ∙ c.loop-rest.invariant

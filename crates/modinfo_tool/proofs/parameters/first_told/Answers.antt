@@ -9,15 +9,25 @@ use Rattle.modinfo_tool.proofs.parameters.first_told.Goals as goal
 
 pub loop-value-init : goal.loop-value-init
 unfolding first_told
-loop-value-init c = λ name. ap (λ es. option_map (λ (t : Bor (List ℕ)). t.now) (lookup (λ (key : NameKey). bytes_eq name key.bytes.now) es)) c.with_hasher-told.ensures.empty
+loop-value-init c =
+    λ name. ap (λ es. option_map (λ (t : Bor (List ℕ)). t.now)
+    (lookup (λ (key : NameKey). bytes_eq name key.bytes.now) es))
+    c.with_hasher-told.ensures.empty
 
 pub loop-value-preserved : goal.loop-value-preserved
 loop-value-preserved c = λ name.
     let value = c.value-item.result in
-    let named : c.split_at_byte.result.0.now ≡ name_of value = c.split_at_byte.ensures.before ∙ ap name_of c.as_bytes.ensures in
-    let told : c.split_at_byte.result.1.now ≡ rest_of value = c.split_at_byte.ensures.after ∙ ap rest_of c.as_bytes.ensures in
+    let named : c.split_at_byte.result.0.now ≡ name_of value
+    = c.split_at_byte.ensures.before ∙ ap name_of c.as_bytes.ensures in
+    let told : c.split_at_byte.result.1.now ≡ rest_of value
+    = c.split_at_byte.ensures.after ∙ ap rest_of c.as_bytes.ensures in
     c.in_ok-keep_first.ensures.ok name
-    ∙ ap (λ o. option_or o (cond (bytes_eq c.split_at_byte.result.0.now name) (Some c.split_at_byte.result.1.now) None)) (c.loop-value.invariant name)
-    ∙ ap (λ n. option_or (first_told (take c.loop-value.value-index c.args.values.now) name) (cond (bytes_eq n name) (Some c.split_at_byte.result.1.now) None)) named
-    ∙ ap (λ r. option_or (first_told (take c.loop-value.value-index c.args.values.now) name) (cond (bytes_eq (name_of value) name) (Some r) None)) told
-    ∙ sym (first_told-next c.args.values.now c.loop-value.value-index value name c.loop-value-test.true c.value-item.is)
+    ∙ ap (λ o. option_or o
+    (cond (bytes_eq c.split_at_byte.result.0.now name) (Some c.split_at_byte.result.1.now)
+    None)) (c.loop-value.invariant name)
+    ∙ ap (λ n. option_or (first_told (take c.loop-value.value-index c.args.values.now) name)
+    (cond (bytes_eq n name) (Some c.split_at_byte.result.1.now) None)) named
+    ∙ ap (λ r. option_or (first_told (take c.loop-value.value-index c.args.values.now) name)
+    (cond (bytes_eq (name_of value) name) (Some r) None)) told
+    ∙ sym (first_told-next c.args.values.now c.loop-value.value-index value name
+    c.loop-value-test.true c.value-item.is)

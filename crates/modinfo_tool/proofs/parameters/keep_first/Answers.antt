@@ -13,7 +13,10 @@ returns-in_ok-insert c = record {
       let told = c.args.told.now in
       let key : NameKey = c.new-key.result in
       let same = λ (x y : NameKey). bytes_eq x.bytes.now y.bytes.now in
-      let new : get same told key ≡ None = absent c.get.result _ c.is_none.result c.get.ensures.value c.is_none.ensures c.if-is_none.true in
+      let new : get same told key ≡ None
+      = absent c.get.result _ c.is_none.result c.get.ensures.value c.is_none.ensures
+      c.if-is_none.true in
       rw (← c.new-key.ensures)
-      (put-last told.entries c.insert.new.self.entries key c.args.rest other (c.in_ok-insert.ensures.entries ∙ insert_entry-new same told key c.args.rest new));
+      (put-last told.entries c.insert.new.self.entries key c.args.rest other
+      (c.in_ok-insert.ensures.entries ∙ insert_entry-new same told key c.args.rest new));
 }

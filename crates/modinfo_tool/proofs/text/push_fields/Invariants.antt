@@ -6,4 +6,7 @@ use Rattle.modinfo_tool.proofs.text.push_fields.Given as goal
 
 abbrev pub invariant-loop-i : goal.invariant-loop-i
 invariant-loop-i l = l.text
-    ≡ l.fn.text ++ ended l.end (map (λ (field : Field). labelled field.key field.value) (filter (λ field. not (is_parameter field)) (take l.i l.fields)))
+    ≡ l.fn.text
+    ++ ended l.end
+    (map (λ (field : Field). labelled field.key field.value)
+    (filter (λ field. not (is_parameter field)) (take l.i l.fields)))

@@ -5,7 +5,8 @@ use Rattle.modinfo_tool.proofs.text.show_values.Given as goal
 
 abbrev pub invariant-loop-rest : goal.invariant-loop-rest
 invariant-loop-rest l =
-    l.text ++ ended l.end (values_of_key l.key (fields_of l.rest)) ≡ ended l.end (values_of_key l.key (fields_of l.section))
+    l.text ++ ended l.end (values_of_key l.key (fields_of l.rest))
+    ≡ ended l.end (values_of_key l.key (fields_of l.section))
 
 abbrev pub decreases-loop-rest : goal.decreases-loop-rest
 decreases-loop-rest l = length l.rest

@@ -1,4 +1,5 @@
-use Rattle.std.proofs.Common.{◌≡◌, true, false, cond, ltb, Some, drop, find, ◌+◌, ap, sym, ◌∙◌, arith}
+use Rattle.std.proofs.Common.{◌≡◌, true, false, cond, ltb, Some, drop, find, ◌+◌, ap, sym, ◌∙◌}
+use Rattle.std.proofs.Common.{arith}
 use Rattle.module_facts.specs.Faults.{is_twice}
 use Rattle.module_facts.specs.Times.{is_repeated, times}
 use Rattle.module_facts.proofs.FindLemmas.{find-item}
@@ -12,7 +13,8 @@ returns-then-is_repeated c =
     let i = c.loop-export.export-index in
     let e = c.export-item.result in
     let number : c.is_repeated.result ≡ ltb 1 (times exports e.name) =
-    rw c.as_bytes.ensures at c.is_repeated.ensures ∙ ap is_repeated (c.in_ok-table.ensures.at e.name) ∙ seen-twice (times exports e.name) in
+    rw c.as_bytes.ensures at c.is_repeated.ensures
+    ∙ ap is_repeated (c.in_ok-table.ensures.at e.name) ∙ seen-twice (times exports e.name) in
     let twice : is_twice exports e ≡ true = sym number ∙ c.if-is_repeated.true in
     sym
     (c.loop-export.invariant
@@ -26,7 +28,8 @@ loop-export-preserved c =
     let i = c.loop-export.export-index in
     let e = c.export-item.result in
     let number : c.is_repeated.result ≡ ltb 1 (times exports e.name) =
-    rw c.as_bytes.ensures at c.is_repeated.ensures ∙ ap is_repeated (c.in_ok-table.ensures.at e.name) ∙ seen-twice (times exports e.name) in
+    rw c.as_bytes.ensures at c.is_repeated.ensures
+    ∙ ap is_repeated (c.in_ok-table.ensures.at e.name) ∙ seen-twice (times exports e.name) in
     let once : is_twice exports e ≡ false = sym number ∙ c.if-is_repeated.false in
     c.loop-export.invariant
     ∙ find-item (is_twice exports) exports i e c.loop-export-test.true c.export-item.is

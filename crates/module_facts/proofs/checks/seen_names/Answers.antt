@@ -11,7 +11,8 @@ loop-export-preserved c = λ name.
     let i = c.loop-export.export-index in
     let e = c.export-item.result in
     let n = times (take i exports) e.name in
-    let found : c.get.result ≡ seen n = rw c.as_bytes-name.ensures at c.get.ensures ∙ c.loop-export.invariant e.name in
+    let found : c.get.result ≡ seen n
+    = rw c.as_bytes-name.ensures at c.get.ensures ∙ c.loop-export.invariant e.name in
     let was : is_some (seen n) ≡ c.is_some.result = sym (c.is_some.ensures ∙ ap is_some found) in
     let next : Some c.if-is_some.times ≡ seen (n + 1) =
     elim c.if-is_some.branch [
@@ -19,5 +20,7 @@ loop-export-preserved c = λ name.
       | else-is_some w ↦ rw w.times-is (seen-first n (was ∙ w.if-is_some.false))
     ] in
     rw c.as_bytes-name.ensures at (c.in_ok-put.ensures name)
-    ∙ seen-more exports i e name c.if-is_some.times _ c.loop-export-test.true c.export-item.is (c.loop-export.invariant name)
-    (λ same. next ∙ ap (λ m. seen (times (take i exports) m + 1)) ((bytes_decides e.name name).0 same))
+    ∙ seen-more exports i e name c.if-is_some.times _ c.loop-export-test.true c.export-item.is
+    (c.loop-export.invariant name)
+    (λ same. next
+    ∙ ap (λ m. seen (times (take i exports) m + 1)) ((bytes_decides e.name name).0 same))

@@ -3,4 +3,5 @@ use Rattle.module_facts.specs.Times.{seen, times, times_seen}
 use Rattle.module_facts.proofs.checks.seen_names.Given as goal
 
 abbrev pub invariant-loop-export : goal.invariant-loop-export
-invariant-loop-export l = (name : List ℕ) → times_seen l.table name ≡ seen (times (take l.export-index l.exports) name)
+invariant-loop-export l =
+    (name : List ℕ) → times_seen l.table name ≡ seen (times (take l.export-index l.exports) name)

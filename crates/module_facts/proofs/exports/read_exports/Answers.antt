@@ -5,7 +5,8 @@ use Rattle.module_facts.specs.Roles.{stated_name}
 use Rattle.module_facts.specs.Exports.{export_of}
 use Rattle.module_facts.proofs.ListLemmas.{filter_map-given, filter_map-silent}
 use Rattle.module_facts.proofs.exports.read_exports.Goals as goal
-use Rattle.module_facts.proofs.exports.read_exports.Goals.{in-Some+in_ok-export+in_ok-push, in_default}
+use Rattle.module_facts.proofs.exports.read_exports.Goals.{in-Some+in_ok-export+in_ok-push}
+use Rattle.module_facts.proofs.exports.read_exports.Goals.{in_default}
 
 pub loop-i-preserved : goal.loop-i-preserved
 loop-i-preserved c =
@@ -16,8 +17,10 @@ loop-i-preserved c =
       | in-Some+in_ok-export+in_ok-push w ↦
           w.exports-is ∙ w.in_ok-push.ensures.ok
           ∙ rw (c.loop-i.invariant, w.in_ok-export.ensures.export)
-          (sym (filter_map-given (stated_name Export) (export_of o) o.symbols i s w.in-Some.name.now c.symbol.ensures.symbol w.in-Some.ensures))
+          (sym (filter_map-given (stated_name Export) (export_of o) o.symbols i s w.in-Some.name.now
+          c.symbol.ensures.symbol w.in-Some.ensures))
       | in_default w ↦
           w.exports-is ∙ c.loop-i.invariant
-          ∙ sym (filter_map-silent (stated_name Export) (export_of o) o.symbols i s c.symbol.ensures.symbol w.in_default.ensures)
+          ∙ sym (filter_map-silent (stated_name Export) (export_of o) o.symbols i s
+          c.symbol.ensures.symbol w.in_default.ensures)
     ]

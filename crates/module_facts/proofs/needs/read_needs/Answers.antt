@@ -5,7 +5,8 @@ use Rattle.module_facts.specs.Needs.{is_need, need_of}
 use Rattle.module_facts.specs.Versions.{version_list}
 use Rattle.module_facts.proofs.ListLemmas.{numbered-failed, numbered-passed}
 use Rattle.module_facts.proofs.needs.read_needs.Goals as goal
-use Rattle.module_facts.proofs.needs.read_needs.Goals.{then-is_need+in_ok-read_need+in_ok-push, else-is_need}
+use Rattle.module_facts.proofs.needs.read_needs.Goals.{then-is_need+in_ok-read_need+in_ok-push}
+use Rattle.module_facts.proofs.needs.read_needs.Goals.{else-is_need}
 
 pub loop-i-preserved : goal.loop-i-preserved
 loop-i-preserved c =
@@ -17,9 +18,13 @@ loop-i-preserved c =
       | then-is_need+in_ok-read_need+in_ok-push w ↦
           w.needs-is ∙ w.in_ok-push.ensures.ok
           ∙ rw (c.loop-i.invariant, w.in_ok-read_need.ensures)
-          (ap (λ l. map (λ p. need_of (version_list c.args.object.now) p.0 p.1) (filter (λ p. is_need p.0 p.1) (enumerate_from 0 (take i symbols))) ++ need_of l i s ∷ []) c.in_ok-versions.ensures.list
-          ∙ sym (numbered-passed (λ p. is_need p.0 p.1) (λ p. need_of versions p.0 p.1) symbols i s c.symbol-symbol.ensures.symbol (sym c.is_need.ensures ∙ w.if-is_need.true)))
+          (ap (λ l. map (λ p. need_of (version_list c.args.object.now) p.0 p.1)
+          (filter (λ p. is_need p.0 p.1) (enumerate_from 0 (take i symbols)))
+          ++ need_of l i s ∷ []) c.in_ok-versions.ensures.list
+          ∙ sym (numbered-passed (λ p. is_need p.0 p.1) (λ p. need_of versions p.0 p.1) symbols i s
+          c.symbol-symbol.ensures.symbol (sym c.is_need.ensures ∙ w.if-is_need.true)))
       | else-is_need w ↦
           w.needs-is ∙ c.loop-i.invariant
-          ∙ sym (numbered-failed (λ p. is_need p.0 p.1) (λ p. need_of versions p.0 p.1) symbols i s c.symbol-symbol.ensures.symbol (sym c.is_need.ensures ∙ w.if-is_need.false))
+          ∙ sym (numbered-failed (λ p. is_need p.0 p.1) (λ p. need_of versions p.0 p.1) symbols i s
+          c.symbol-symbol.ensures.symbol (sym c.is_need.ensures ∙ w.if-is_need.false))
     ]

@@ -6,4 +6,6 @@ use Rattle.module_facts.proofs.needs.read_needs.Given as goal
 
 abbrev pub invariant-loop-i : goal.invariant-loop-i
 invariant-loop-i l =
-    l.needs ≡ map (λ p. need_of (version_list l.object) p.0 p.1) (filter (λ p. is_need p.0 p.1) (enumerate_from 0 (take l.i l.object.symbols)))
+    l.needs
+    ≡ map (λ p. need_of (version_list l.object) p.0 p.1)
+    (filter (λ p. is_need p.0 p.1) (enumerate_from 0 (take l.i l.object.symbols)))

@@ -17,11 +17,18 @@ invariant_of-result c =
     let object = c.in_ok-object.ensures.object in
     let facts = c.in_ok-facts.ensures.facts in
     let tests : first (facts_tests o (object_facts path o)) ≡ None = c.in_ok-facts.ensures.passed in
-    let passed : first (facts_tests (file_object bytes) (object_facts path (file_object bytes))) ≡ None = rw object at tests in
+    let passed : first (facts_tests (file_object bytes) (object_facts path (file_object bytes)))
+    ≡ None
+    = rw object at tests in
     record {
-      valid = IsModule-read path bytes o f object facts (fact_fault-none path bytes (sym c.is_compressed.ensures ∙ c.if-is_compressed.false) c.in_ok-object.ensures.passed passed);
+      valid
+          = IsModule-read path bytes o f object facts
+          (fact_fault-none path bytes (sym c.is_compressed.ensures ∙ c.if-is_compressed.false)
+          c.in_ok-object.ensures.passed passed);
       sound = IsSound-passed path o f facts (ap (λ x. first (facts_tests o x)) facts ∙ tests);
     }
 
 pub returns-clause-path : goal.returns-clause-path
-returns-clause-path c = ap (λ (f : Facts). f.path) c.in_ok-facts.ensures.facts ∙ object_facts-path c.args.path.now c.in_ok-object.object
+returns-clause-path c =
+    ap (λ (f : Facts). f.path) c.in_ok-facts.ensures.facts
+    ∙ object_facts-path c.args.path.now c.in_ok-object.object

@@ -6,4 +6,5 @@ use Rattle.module_facts.specs.Exports.{export_of}
 use Rattle.module_facts.proofs.tables.exports_nothing.Given as goal
 
 abbrev pub invariant-loop-i : goal.invariant-loop-i
-invariant-loop-i l = map (export_of l.object) (filter_map (stated_name Export) (take l.i l.object.symbols)) ≡ []
+invariant-loop-i l =
+    map (export_of l.object) (filter_map (stated_name Export) (take l.i l.object.symbols)) ≡ []

@@ -13,6 +13,8 @@ loop-i-preserved c =
     record {
       count = omega (arith, c.in_ok-push.ensures.count, c.loop-i.invariant.count);
       is = subst (IsTableOf c.push.new.self)
-          (ap (λ o. so_far ++ o ∷ []) c.stated_name.ensures ∙ sym (map-item f symbols c.loop-i.i (owned_symbol c.symbol.result) c.symbol.ensures.symbol))
+          (ap (λ o. so_far ++ o ∷ []) c.stated_name.ensures
+          ∙ sym (map-item f symbols c.loop-i.i (owned_symbol c.symbol.result)
+          c.symbol.ensures.symbol))
           (c.in_ok-push.ensures.ok so_far c.loop-i.invariant.is);
     }

@@ -7,9 +7,12 @@ pub returns-then-is_none : goal.returns-then-is_none
 returns-then-is_none c =
     let b = c.args.bytes.now in
     let k = c.loop-k.k in
-    let missing = nameless c.entry_name.result (entry_name b k) c.is_none.result c.entry_name.ensures c.is_none.ensures c.if-is_none.true in
+    let missing
+    = nameless c.entry_name.result (entry_name b k) c.is_none.result c.entry_name.ensures
+    c.is_none.ensures c.if-is_none.true in
     sym (are_bad_entries-true b k (omega arith) missing)
 
 pub returns : goal.returns
 returns c =
-    sym (are_bad_entries-false c.args.bytes.now c.if-bytes-ne0.false (λ k less. c.loop-k.invariant k (omega arith)))
+    sym (are_bad_entries-false c.args.bytes.now c.if-bytes-ne0.false
+    (λ k less. c.loop-k.invariant k (omega arith)))

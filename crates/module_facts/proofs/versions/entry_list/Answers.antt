@@ -11,11 +11,25 @@ loop-k-preserved c =
       | in-Some+in_ok-push w ↦
           let v : Version = record { name = w.in-Some.name; number = w.le_u64_at-number.result } in
           record {
-            list = rw (w.list-is, w.in_ok-push.ensures.ok) (entry-given c.args.bytes.now c.loop-k.k c.loop-k.list v w.in-Some.name.now w.le_u64_at-number.result c.loop-k.invariant.list w.in-Some.ensures w.le_u64_at-number.ensures refl);
-            few = omega (arith, ap length w.list-is, ap length w.in_ok-push.ensures.ok, length-append c.loop-k.list (v ∷ []), c.loop-k.invariant.few);
+            list
+                = rw (w.list-is, w.in_ok-push.ensures.ok)
+                (entry-given c.args.bytes.now c.loop-k.k c.loop-k.list v w.in-Some.name.now
+                w.le_u64_at-number.result c.loop-k.invariant.list w.in-Some.ensures
+                w.le_u64_at-number.ensures refl);
+            few
+                = omega (
+                  arith,
+                  ap length w.list-is,
+                  ap length w.in_ok-push.ensures.ok,
+                  length-append c.loop-k.list (v ∷ []),
+                  c.loop-k.invariant.few,
+                );
           }
       | in_default w ↦ record {
-        list = rw w.list-is (entry-silent c.args.bytes.now c.loop-k.k c.loop-k.list c.loop-k.invariant.list w.in_default.ensures);
+        list
+            = rw w.list-is
+            (entry-silent c.args.bytes.now c.loop-k.k c.loop-k.list c.loop-k.invariant.list
+            w.in_default.ensures);
         few = omega (arith, ap length w.list-is, c.loop-k.invariant.few);
       }
     ]

@@ -8,4 +8,5 @@ unfolding entry_name
 returns c =
     let start = 64 * c.args.k + 8 in
     let size : start + 56 - start ≡ 56 = omega arith in
-    c.first_string.ensures.string ∙ ap (λ n. first_string (take n (drop start c.args.bytes.now))) size
+    c.first_string.ensures.string
+    ∙ ap (λ n. first_string (take n (drop start c.args.bytes.now))) size

@@ -9,6 +9,8 @@ abbrev pub invariant-loop-k : goal.invariant-loop-k
 invariant-loop-k l = record {
   list :
       extended_list l.crcs l.names
-      ≡ map version_entry l.list ++ zip (ended_names l.rest) (map (λ j. le l.crcs (4 * j) 4) (range_with_len l.k (length l.crcs / 4 - l.k)));
+      ≡ map version_entry l.list
+      ++ zip (ended_names l.rest)
+      (map (λ j. le l.crcs (4 * j) 4) (range_with_len l.k (length l.crcs / 4 - l.k)));
   few : length l.list ≤ l.k;
 }

@@ -4,9 +4,13 @@ use Rattle.module_facts.proofs.VersionLemmas.{stated-found, stated-none}
 use Rattle.module_facts.proofs.versions.stated_version.Goals as goal
 
 pub returns-in_err-place : goal.returns-in_err-place
-returns-in_err-place c = c.from_residual.ensures ∙ stated-none c.args.list.now c.args.name.now (c.in_err-place.ensures ∙ c.requires.places c.args.name.now)
+returns-in_err-place c =
+    c.from_residual.ensures
+    ∙ stated-none c.args.list.now c.args.name.now
+    (c.in_err-place.ensures ∙ c.requires.places c.args.name.now)
 
 pub returns-in-Some : goal.returns-in-Some
 returns-in-Some c =
     ap (option_map (λ (v : Version). v.number)) c.in-Some.ensures.item
-    ∙ stated-found c.args.list.now c.args.name.now c.in_ok-place.place (c.in_ok-place.ensures ∙ c.requires.places c.args.name.now)
+    ∙ stated-found c.args.list.now c.args.name.now c.in_ok-place.place
+    (c.in_ok-place.ensures ∙ c.requires.places c.args.name.now)

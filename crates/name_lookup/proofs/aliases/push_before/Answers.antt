@@ -8,5 +8,7 @@ returns-clause-names c =
     let names = c.args.names.now in
     let aliases = c.args.aliases.now in
     c.in_ok-push_all.ensures
-    ∙ ap (λ ps. names ++ map (λ (p : Plain). p.1) ps) (sym (take-map shown_plain c.count_before-count.result aliases))
-    ∙ ap (λ n. names ++ map (λ (p : Plain). p.1) (take n (map shown_plain aliases))) c.count_before-count.ensures.count
+    ∙ ap (λ ps. names ++ map (λ (p : Plain). p.1) ps)
+    (sym (take-map shown_plain c.count_before-count.result aliases))
+    ∙ ap (λ n. names ++ map (λ (p : Plain). p.1) (take n (map shown_plain aliases)))
+    c.count_before-count.ensures.count

@@ -8,7 +8,8 @@ pub returns-then-drops : goal.returns-then-drops
 returns-then-drops c =
     let few : length c.args.names.now ≤ 1 = omega (arith, c.if-len-gt1.false, c.len.ensures) in
     λ e. one-stays c.args.names.now c.args.dropped.now c.args.drops few
-    (λ drops. nil_from_length c.args.dropped.now (sym c.len-then-drops.ensures ∙ eqb-true c.len-then-drops.result 0 e))
+    (λ drops. nil_from_length c.args.dropped.now
+    (sym c.len-then-drops.ensures ∙ eqb-true c.len-then-drops.result 0 e))
 
 pub returns : goal.returns
 returns c =

@@ -14,11 +14,16 @@ loop-rule-preserved c =
     let i = c.loop-rule.rule-index in
     let rule = c.rule-item.result in
     let more = blacklisted-more rules i rule name c.loop-rule-test.true c.rule-item.is in
-    let of_rules : is_blacklisted (take i c.args.rules.now) name ≡ is_blacklisted (take i rules) name = ap (λ rs. is_blacklisted (take i rs) name) (sym c.as_slice-rule-items.ensures) in
-    let back : is_blacklisted (take (i + 1) rules) name ≡ is_blacklisted (take (i + 1) c.args.rules.now) name = ap (λ rs. is_blacklisted (take (i + 1) rs) name) c.as_slice-rule-items.ensures in
+    let of_rules : is_blacklisted (take i c.args.rules.now) name
+    ≡ is_blacklisted (take i rules) name
+    = ap (λ rs. is_blacklisted (take i rs) name) (sym c.as_slice-rule-items.ensures) in
+    let back : is_blacklisted (take (i + 1) rules) name
+    ≡ is_blacklisted (take (i + 1) c.args.rules.now) name
+    = ap (λ rs. is_blacklisted (take (i + 1) rs) name) c.as_slice-rule-items.ensures in
     elim c.match-blacklisted_name.branch [
       | in-Some+in_ok-insert w ↦
-          let stated : blacklists name rule ≡ bytes_eq name w.in-Some.name.now = ap (λ o. option_map_or (bytes_eq name) o false) (sym w.in-Some.ensures) in
+          let stated : blacklists name rule ≡ bytes_eq name w.in-Some.name.now
+          = ap (λ o. option_map_or (bytes_eq name) o false) (sym w.in-Some.ensures) in
           ap (λ ns. is_among ns name) w.names-is
           ∙ w.in_ok-insert.ensures.among name
           ∙ (λ j. (c.loop-rule.invariant name ∙ of_rules) j || bytes_eq name w.in-Some.name.now)
@@ -26,7 +31,8 @@ loop-rule-preserved c =
           ∙ (λ j. is_blacklisted (take i rules) name || (sym stated j || false))
           ∙ sym more ∙ back
       | in_default w ↦
-          let stated : blacklists name rule ≡ false = ap (λ o. option_map_or (bytes_eq name) o false) (sym w.in_default.ensures) in
+          let stated : blacklists name rule ≡ false
+          = ap (λ o. option_map_or (bytes_eq name) o false) (sym w.in_default.ensures) in
           ap (λ ns. is_among ns name) w.names-is
           ∙ c.loop-rule.invariant name
           ∙ of_rules

@@ -17,10 +17,14 @@ returns-in_ok-insert-clause-ok c = λ other.
     let same = bytes_eq name other in
     let first = c.in-Some.first in
     let found = λ (equal : same ≡ true).
-    ap (λ n. get_by (λ (k : NameKey). bytes_eq n k.bytes.now) places) (sym ((bytes_decides name other).0 equal)) ∙ sym c.in_ok-first.ensures.old ∙ c.in-Some.is in
+    ap (λ n. get_by (λ (k : NameKey). bytes_eq n k.bytes.now) places)
+    (sym ((bytes_decides name other).0 equal))
+    ∙ sym c.in_ok-first.ensures.old ∙ c.in-Some.is in
     let once = c.in_ok-first.ensures.updates.0 (key_of other) in
     let twice = c.in_ok-insert.ensures.updates.0 (key_of other) in
-    rw (← c.new-key.ensures) (kept same _ (get_by (λ (k : NameKey). bytes_eq other k.bytes.now) places) (Some first) first c.args.place (put_twice same _ _ _ _ _ twice once) refl found)
+    rw (← c.new-key.ensures)
+    (kept same _ (get_by (λ (k : NameKey). bytes_eq other k.bytes.now) places) (Some first)
+    first c.args.place (put_twice same _ _ _ _ _ twice once) refl found)
 
 pub returns-in_default-clause-ok : goal.returns-in_default-clause-ok
 returns-in_default-clause-ok c = λ other.
@@ -28,5 +32,9 @@ returns-in_default-clause-ok c = λ other.
     let name = c.new-key.result.bytes.now in
     let same = bytes_eq name other in
     let found = λ (equal : same ≡ true).
-    ap (λ n. get_by (λ (k : NameKey). bytes_eq n k.bytes.now) places) (sym ((bytes_decides name other).0 equal)) ∙ sym c.in_ok-first.ensures.old ∙ c.in_default.is in
-    rw (← c.new-key.ensures) (kept same _ (get_by (λ (k : NameKey). bytes_eq other k.bytes.now) places) None c.args.place c.args.place (c.in_ok-first.ensures.updates.0 (key_of other)) refl found)
+    ap (λ n. get_by (λ (k : NameKey). bytes_eq n k.bytes.now) places)
+    (sym ((bytes_decides name other).0 equal))
+    ∙ sym c.in_ok-first.ensures.old ∙ c.in_default.is in
+    rw (← c.new-key.ensures)
+    (kept same _ (get_by (λ (k : NameKey). bytes_eq other k.bytes.now) places) None c.args.place
+    c.args.place (c.in_ok-first.ensures.updates.0 (key_of other)) refl found)

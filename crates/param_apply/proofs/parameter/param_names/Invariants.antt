@@ -6,6 +6,7 @@ use Rattle.param_apply.proofs.parameter.param_names.Given as goal
 
 abbrev pub invariant-loop-param : goal.invariant-loop-param
 invariant-loop-param l = record {
-  table : IsTableOf l.names (map (λ (p : Parameter). Some (underscored p.name)) (take l.param-index l.list));
+  table : IsTableOf l.names
+      (map (λ (p : Parameter). Some (underscored p.name)) (take l.param-index l.list));
   count : l.names.count ≡ l.param-index;
 }

@@ -6,6 +6,7 @@ use Rattle.param_apply.proofs.parameter.text_names.Given as goal
 
 abbrev pub invariant-loop-text : goal.invariant-loop-text
 invariant-loop-text l = record {
-  table : IsTableOf l.names (map (λ text. Some (underscored (text_name text))) (take l.text-index l.texts));
+  table : IsTableOf l.names
+      (map (λ text. Some (underscored (text_name text))) (take l.text-index l.texts));
   count : l.names.count ≡ l.text-index;
 }

@@ -1,4 +1,5 @@
-use Rattle.std.proofs.Common.{◌≡◌, ◌+◌, ◌<◌, ◌∙◌, ℕ, Bool, List, [], ◌∷◌, ◌++◌, Some, sym, ap, arith, length, take}
+use Rattle.std.proofs.Common.{◌≡◌, ◌+◌, ◌<◌, ◌∙◌, ℕ, Bool, List, [], ◌∷◌, ◌++◌, Some, sym, ap}
+use Rattle.std.proofs.Common.{arith, length, take}
 use Rattle.std.specs.Prelude.{◌||◌, slice_get}
 use Rattle.std.specs.List.{list_any}
 use Rattle.std.proofs.lemmas.List.{take_more}
@@ -9,14 +10,22 @@ use Rattle.param_apply.specs.Places.{is_relocated_by}
 use Rattle.param_apply.proofs.taken.reserved.Goals as goal
 use Rattle.std.proofs.Math.Bool.{or-false}
 
-any-more : {X : Type 0} (test : X → Bool) (xs : List X) (i : ℕ) (x : X) → slice_get xs i ≡ Some x → list_any test (take (i + 1) xs) ≡ (list_any test (take i xs) || test x)
+any-more : {X : Type 0} (test : X → Bool) (xs : List X) (i : ℕ) (x : X) → slice_get xs i ≡ Some x
+    → list_any test (take (i + 1) xs) ≡ (list_any test (take i xs) || test x)
 any-more test xs i x is =
-    ap (list_any test) (take_more xs i x (slice_get_within xs i x is) ∙ ap (λ y. take i xs ++ y ∷ []) (get_or_from_slice_get xs i x x is))
-    ∙ list_any-append test (take i xs) (x ∷ []) ∙ ap (λ b. list_any test (take i xs) || b) (or-false (test x))
+    ap (list_any test)
+    (take_more xs i x (slice_get_within xs i x is)
+    ∙ ap (λ y. take i xs ++ y ∷ []) (get_or_from_slice_get xs i x x is))
+    ∙ list_any-append test (take i xs) (x ∷ [])
+    ∙ ap (λ b. list_any test (take i xs) || b) (or-false (test x))
 
 pub mark_place-requires : goal.mark_place-requires
 mark_place-requires c =
-    omega (arith, c.place.ensures.inside.target, length_layout c.args.object.now.sections c.args.layout.now c.requires.layout)
+    omega (
+      arith,
+      c.place.ensures.inside.target,
+      length_layout c.args.object.now.sections c.args.layout.now c.requires.layout,
+    )
 
 pub loop-i-preserved : goal.loop-i-preserved
 loop-i-preserved c =

@@ -6,5 +6,7 @@ use Rattle.param_apply.proofs.taken.reserved.Given as goal
 abbrev pub invariant-loop-i : goal.invariant-loop-i
 invariant-loop-i l = record {
   length : length l.taken.items ≡ l.len;
-  taken : (x : ℕ) → x < l.len → get_or l.taken.items x false ≡ list_any (is_relocated_by l.object x) (take l.i l.object.places);
+  taken : (x : ℕ) → x < l.len
+      → get_or l.taken.items x false
+      ≡ list_any (is_relocated_by l.object x) (take l.i l.object.places);
 }

@@ -12,5 +12,6 @@ returns-in-Double-Double c =
     let planned = is_among c.args.planned.now in
     let there = is_among c.args.there.now in
     c.collides.ensures w.symbol-1
-    ∙ (λ i. collides (λ path. planned path || there path) planned (Double w.symbol-1 (c.as_bytes.ensures i) (c.as_bytes-in-Double-Double.ensures i)))
+    ∙ (λ i. collides (λ path. planned path || there path) planned
+    (Double w.symbol-1 (c.as_bytes.ensures i) (c.as_bytes-in-Double-Double.ensures i)))
     ∙ sym (λ i. is_obstacle (w.is-0 i) planned there (w.is-1 i))

@@ -7,5 +7,7 @@ use Rattle.plan_builder.proofs.check.standing_paths.Goals as goal
 pub paths_of-requires : goal.paths_of-requires
 paths_of-requires c =
     subst (All (λ y. y < length c.modules-2.result.now))
-    (sym (c.deref.ensures.value ∙ c.in_ok-places.ensures ∙ ap (λ ms. places_of ms c.loaded.result.now) (c.modules.ensures ∙ sym c.modules-2.ensures)))
+    (sym (c.deref.ensures.value ∙ c.in_ok-places.ensures
+    ∙ ap (λ ms. places_of ms c.loaded.result.now)
+    (c.modules.ensures ∙ sym c.modules-2.ensures)))
     (places-inside c.modules-2.result.now c.loaded.result.now)

@@ -4,4 +4,5 @@ use Rattle.plan_builder.specs.Requested.{is_member_of}
 use Rattle.plan_builder.proofs.members.member_names.Given as goal
 
 abbrev pub invariant-loop-found : goal.invariant-loop-found
-invariant-loop-found l = (name : List ℕ) → is_among l.names name ≡ is_member_of (take l.found-index l.founds) name
+invariant-loop-found l =
+    (name : List ℕ) → is_among l.names name ≡ is_member_of (take l.found-index l.founds) name

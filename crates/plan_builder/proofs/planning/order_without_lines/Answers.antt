@@ -14,7 +14,8 @@ use Rattle.plan_builder.proofs.planning.order_without_lines.Goals as goal
 pub order_of-requires : goal.order_of-requires
 order_of-requires c =
     let s = sources_of c.args.planner.now in
-    short-answer (modules s) (among (before s)) (unloaded s) (after s) (asked s c.args.founds.now) (length (modules s)) c.args.answer (unloaded-low s) c.requires.answer
+    short-answer (modules s) (among (before s)) (unloaded s) (after s) (asked s c.args.founds.now)
+    (length (modules s)) c.args.answer (unloaded-low s) c.requires.answer
 
 pub returns-in_err-order-clause-err : goal.returns-in_err-order-clause-err
 returns-in_err-order-clause-err c =
@@ -24,7 +25,8 @@ returns-in_err-order-clause-err c =
     rw (p.1, p.2)
     (right (λ e.
     ap (option_map as_obstacle) (no-lines s founds c.requires.lines)
-    ∙ cycle-answer (modules s) (among (before s)) (unloaded s) (after s) (asked s founds) c.args.answer c.in_err-order.field-0.0 c.requires.answer e)
+    ∙ cycle-answer (modules s) (among (before s)) (unloaded s) (after s) (asked s founds)
+    c.args.answer c.in_err-order.field-0.0 c.requires.answer e)
     c.in_err-order.ensures.err)
 
 pub returns-clause-passed : goal.returns-clause-passed
@@ -32,4 +34,5 @@ returns-clause-passed c =
     let s = sources_of c.args.planner.now in
     let founds = c.args.founds.now in
     no-lines s founds c.requires.lines
-    ∙ plan-answer (modules s) (among (before s)) (unloaded s) (after s) (asked s founds) c.args.answer c.in_ok-order.order c.requires.answer c.in_ok-order.ensures.order
+    ∙ plan-answer (modules s) (among (before s)) (unloaded s) (after s) (asked s founds)
+    c.args.answer c.in_ok-order.order c.requires.answer c.in_ok-order.ensures.order

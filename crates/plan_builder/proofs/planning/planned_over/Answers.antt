@@ -10,31 +10,56 @@ use Rattle.plan_builder.specs.Closed.{IsClosedPlan}
 use Rattle.plan_builder.proofs.planning.planned_over.Goals as goal
 
 pub planned_steps-requires : goal.planned_steps-requires
-planned_steps-requires c = ap (λ h. bad_name (sources_of h).maps.dep) c.in_ok-planner.ensures ∙ c.requires.sound
+planned_steps-requires c =
+    ap (λ h. bad_name (sources_of h).maps.dep) c.in_ok-planner.ensures ∙ c.requires.sound
 
 pub returns-clause-plan : goal.returns-clause-plan
 returns-clause-plan c =
     let request = c.args.request.now in
-    let same : sources_of c.in_ok-planner.planner ≡ sources c.args.rules.now c.args.indexes.now c.args.unmet.now c.args.loaded.now c.args.request.now =
-    ap sources_of c.in_ok-planner.ensures ∙ (λ i. sources c.args.rules.now c.args.indexes.now (c.as_slice.ensures i) (c.as_slice-2.ensures i) c.args.request.now) in
-    subst (λ s. IfOk c.planned_steps.result (λ steps. steps ≡ plan_steps s request)) same c.planned_steps.ensures.plan
+    let same : sources_of c.in_ok-planner.planner
+    ≡ sources c.args.rules.now c.args.indexes.now c.args.unmet.now c.args.loaded.now
+    c.args.request.now
+    =
+    ap sources_of c.in_ok-planner.ensures
+    ∙ (λ i. sources c.args.rules.now c.args.indexes.now (c.as_slice.ensures i)
+    (c.as_slice-2.ensures i) c.args.request.now) in
+    subst (λ s. IfOk c.planned_steps.result (λ steps. steps ≡ plan_steps s request)) same
+    c.planned_steps.ensures.plan
 
 pub returns-clause-passed : goal.returns-clause-passed
 returns-clause-passed c =
     let request = c.args.request.now in
-    let same : sources_of c.in_ok-planner.planner ≡ sources c.args.rules.now c.args.indexes.now c.args.unmet.now c.args.loaded.now c.args.request.now =
-    ap sources_of c.in_ok-planner.ensures ∙ (λ i. sources c.args.rules.now c.args.indexes.now (c.as_slice.ensures i) (c.as_slice-2.ensures i) c.args.request.now) in
-    subst (λ s. OnOk c.planned_steps.result (obstacle_of s request ≡ None)) same c.planned_steps.ensures.passed
+    let same : sources_of c.in_ok-planner.planner
+    ≡ sources c.args.rules.now c.args.indexes.now c.args.unmet.now c.args.loaded.now
+    c.args.request.now
+    =
+    ap sources_of c.in_ok-planner.ensures
+    ∙ (λ i. sources c.args.rules.now c.args.indexes.now (c.as_slice.ensures i)
+    (c.as_slice-2.ensures i) c.args.request.now) in
+    subst (λ s. OnOk c.planned_steps.result (obstacle_of s request ≡ None)) same
+    c.planned_steps.ensures.passed
 
 pub returns-clause-closed : goal.returns-clause-closed
 returns-clause-closed c =
-    let same : sources_of c.in_ok-planner.planner ≡ sources c.args.rules.now c.args.indexes.now c.args.unmet.now c.args.loaded.now c.args.request.now =
-    ap sources_of c.in_ok-planner.ensures ∙ (λ i. sources c.args.rules.now c.args.indexes.now (c.as_slice.ensures i) (c.as_slice-2.ensures i) c.args.request.now) in
+    let same : sources_of c.in_ok-planner.planner
+    ≡ sources c.args.rules.now c.args.indexes.now c.args.unmet.now c.args.loaded.now
+    c.args.request.now
+    =
+    ap sources_of c.in_ok-planner.ensures
+    ∙ (λ i. sources c.args.rules.now c.args.indexes.now (c.as_slice.ensures i)
+    (c.as_slice-2.ensures i) c.args.request.now) in
     subst (λ s. IfOk c.planned_steps.result (IsClosedPlan s)) same c.planned_steps.ensures.closed
 
 pub returns-clause-err : goal.returns-clause-err
 returns-clause-err c =
     let request = c.args.request.now in
-    let same : sources_of c.in_ok-planner.planner ≡ sources c.args.rules.now c.args.indexes.now c.args.unmet.now c.args.loaded.now c.args.request.now =
-    ap sources_of c.in_ok-planner.ensures ∙ (λ i. sources c.args.rules.now c.args.indexes.now (c.as_slice.ensures i) (c.as_slice-2.ensures i) c.args.request.now) in
-    subst (λ s. IfErr c.planned_steps.result (λ o. (o ≡ Memory) ⊎ (option_map as_obstacle (obstacle_of s request) ≡ Some o))) same c.planned_steps.ensures.err
+    let same : sources_of c.in_ok-planner.planner
+    ≡ sources c.args.rules.now c.args.indexes.now c.args.unmet.now c.args.loaded.now
+    c.args.request.now
+    =
+    ap sources_of c.in_ok-planner.ensures
+    ∙ (λ i. sources c.args.rules.now c.args.indexes.now (c.as_slice.ensures i)
+    (c.as_slice-2.ensures i) c.args.request.now) in
+    subst (λ s. IfErr c.planned_steps.result
+    (λ o. (o ≡ Memory) ⊎ (option_map as_obstacle (obstacle_of s request) ≡ Some o))) same
+    c.planned_steps.ensures.err

@@ -12,9 +12,12 @@ loop-item-preserved c =
     let o = c.loop-item in
     let x = get_or c.args.items.now c.loop-item.item-index 0 in
     record {
-      rises = subst Rises (sym c.in_ok-insert.ensures.keys) (rises-insert o.sorted.keys x o.invariant.rises);
+      rises
+          = subst Rises (sym c.in_ok-insert.ensures.keys)
+          (rises-insert o.sorted.keys x o.invariant.rises);
       items = λ y.
           ap (λ ks. has ks y) c.in_ok-insert.ensures.keys ∙ has-insert_key o.sorted.keys x y
           ∙ ap (λ b. b || nat_eq y x) (o.invariant.items y)
-          ∙ sym (has-more c.args.items.now o.item-index x y (omega arith) (get_or_default c.args.items.now o.item-index 0 x (omega arith)));
+          ∙ sym (has-more c.args.items.now o.item-index x y (omega arith)
+          (get_or_default c.args.items.now o.item-index 0 x (omega arith)));
     }

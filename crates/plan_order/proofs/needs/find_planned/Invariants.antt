@@ -6,7 +6,8 @@ use Rattle.plan_order.proofs.needs.find_planned.Given as goal
 abbrev pub invariant-loop-next : goal.invariant-loop-next
 invariant-loop-next g l =
     record {
-      progress : Progress (length l.free) l.free (g.N.Needs.before l.needs) (g.N.Needs.after l.needs) l.requests l.next l.found.items l.marks.items;
+      progress : Progress (length l.free) l.free (g.N.Needs.before l.needs)
+          (g.N.Needs.after l.needs) l.requests l.next l.found.items l.marks.items;
       before : Follows (g.N.Needs.before l.needs) (take l.next l.found.items) l.before.items;
       after : Follows (g.N.Needs.after l.needs) (take l.next l.found.items) l.after.items;
       before_long : length l.before.items ≡ length l.free;

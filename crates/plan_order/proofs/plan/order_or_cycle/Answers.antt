@@ -12,28 +12,46 @@ use Rattle.plan_order.proofs.Lists.{rises-from}
 use Rattle.plan_order.proofs.plan.order_or_cycle.Goals as goal
 
 marked-up : (marks : List Bool) → Rising (marked marks)
-marked-up marks = rising-filter (λ y. slice_index_or marks y false) (below (length marks)) (rising-range 0 (length marks))
+marked-up marks =
+    rising-filter (λ y. slice_index_or marks y false) (below (length marks))
+    (rising-range 0 (length marks))
 
 marked-low : (marks : List Bool) (n : ℕ) → length marks ≡ n → All (λ y. y < n) (marked marks)
-marked-low marks n long = all-within n (marked marks) (λ y h. let l = seen-inside marks y (sym (has-marked marks y) ∙ h) in omega (arith, l, long))
+marked-low marks n long =
+    all-within n (marked marks)
+    (λ y h. let l
+    = seen-inside marks y (sym (has-marked marks y) ∙ h) in omega (arith, l, long))
 
 pub order_among-requires-clause-rises : goal.order_among-requires-clause-rises
 order_among-requires-clause-rises c =
-    subst Rises (sym (c.deref.ensures.value ∙ c.in_ok-members.ensures)) (rises-from (marked c.args.marks.now) (marked-up c.args.marks.now))
+    subst Rises (sym (c.deref.ensures.value ∙ c.in_ok-members.ensures))
+    (rises-from (marked c.args.marks.now) (marked-up c.args.marks.now))
 
 pub order_among-requires-clause-inside : goal.order_among-requires-clause-inside
 order_among-requires-clause-inside c =
     let n = length c.args.lists.now in
-    subst (λ xs. All (λ y. y < n) xs) (sym (c.deref.ensures.value ∙ c.in_ok-members.ensures)) (marked-low c.args.marks.now n c.requires.long)
+    subst (λ xs. All (λ y. y < n) xs) (sym (c.deref.ensures.value ∙ c.in_ok-members.ensures))
+    (marked-low c.args.marks.now n c.requires.long)
 
 pub returns-then-len : goal.returns-then-len
 returns-then-len c =
     let r = goes c.args.lists.now in
     let set = marked c.args.marks.now in
     let up = marked-up c.args.marks.now in
-    let order = c.in_ok-order.ensures ∙ ap (least_order r) (c.deref.ensures.value ∙ c.in_ok-members.ensures) in
+    let order
+    = c.in_ok-order.ensures
+    ∙ ap (least_order r) (c.deref.ensures.value ∙ c.in_ok-members.ensures) in
     let long : length (least_order r set) ≡ length set =
-    omega (arith, c.if-len.true, c.len.ensures, c.len-2.ensures, c.in_ok-order.order.ok.0, c.in_ok-members.members.ok.0, ap length order, ap length c.in_ok-members.ensures) in
+    omega (
+      arith,
+      c.if-len.true,
+      c.len.ensures,
+      c.len-2.ensures,
+      c.in_ok-order.order.ok.0,
+      c.in_ok-members.members.ok.0,
+      ap length order,
+      ap length c.in_ok-members.ensures,
+    ) in
     (order-empty r set up long, order, subst (IsOrder r set) (sym order) (order-is r set up long))
 
 pub returns : goal.returns
@@ -41,8 +59,22 @@ returns c =
     let r = goes c.args.lists.now in
     let set = marked c.args.marks.now in
     let up = marked-up c.args.marks.now in
-    let order = c.in_ok-order.ensures ∙ ap (least_order r) (c.deref.ensures.value ∙ c.in_ok-members.ensures) in (
+    let order
+    = c.in_ok-order.ensures
+    ∙ ap (least_order r) (c.deref.ensures.value ∙ c.in_ok-members.ensures) in (
       c.in_ok-named_cycle.ensures,
       subst (Closes r) (sym c.in_ok-named_cycle.ensures)
-          (cycle-is r set up (λ long. absurd (omega (arith, long, c.if-len.false, c.len.ensures, c.len-2.ensures, c.in_ok-order.order.ok.0, c.in_ok-members.members.ok.0, ap length order, ap length c.in_ok-members.ensures)))),
+          (cycle-is r set up
+          (λ long. absurd
+          (omega (
+            arith,
+            long,
+            c.if-len.false,
+            c.len.ensures,
+            c.len-2.ensures,
+            c.in_ok-order.order.ok.0,
+            c.in_ok-members.members.ok.0,
+            ap length order,
+            ap length c.in_ok-members.ensures,
+          )))),
     )

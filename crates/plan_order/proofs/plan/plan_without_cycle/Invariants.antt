@@ -9,7 +9,9 @@ use Rattle.plan_order.proofs.plan.plan_without_cycle.Given as goal
 abbrev pub invariant-loop-next : goal.invariant-loop-next
 invariant-loop-next l =
     record {
-      order : l.groups.order.items ≡ plan_after (goes l.before) (marked l.free) (successors l.post) (items_of l.requests) l.next;
+      order : l.groups.order.items
+          ≡ plan_after (goes l.before) (marked l.free) (successors l.post) (items_of l.requests)
+          l.next;
       whole : Whole (goes l.before) (marked l.free) (length l.before) l.groups;
       turns : l.next ≤ length l.groups.order.items;
     }

@@ -12,12 +12,14 @@ returns-then-is_unknown-clause-err c =
     let test = is_unknown (sources_of c.args.planner.now) c.args.ignored in
     inr (ap (option_map unfound)
     (ap (find test) (sym (ap texts c.deref-name-items.ensures.value ∙ c.in_ok-names.ensures))
-    ∙ find-here test (λ n. n.now) c.deref-name-items.result.now c.loop-name.name-index c.name-item.result c.loop-name-test.true c.name-item.is c.loop-name.invariant
+    ∙ find-here test (λ n. n.now) c.deref-name-items.result.now c.loop-name.name-index
+    c.name-item.result c.loop-name-test.true c.name-item.is c.loop-name.invariant
     (ap test (sym c.as_bytes.ensures) ∙ sym c.is_unknown.ensures ∙ c.if-is_unknown.true))
     ∙ ap (λ o. Some o) (sym c.in_ok-not_found.ensures))
 
 pub loop-name-preserved : goal.loop-name-preserved
 loop-name-preserved c =
     let test = is_unknown (sources_of c.args.planner.now) c.args.ignored in
-    find-more test (λ n. n.now) c.deref-name-items.result.now c.loop-name.name-index c.name-item.result c.loop-name-test.true c.name-item.is c.loop-name.invariant
+    find-more test (λ n. n.now) c.deref-name-items.result.now c.loop-name.name-index
+    c.name-item.result c.loop-name-test.true c.name-item.is c.loop-name.invariant
     (ap test (sym c.as_bytes.ensures) ∙ sym c.is_unknown.ensures ∙ c.if-is_unknown.false)

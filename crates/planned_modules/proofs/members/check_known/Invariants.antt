@@ -6,4 +6,6 @@ use Rattle.planned_modules.specs.Kept.{texts}
 use Rattle.planned_modules.proofs.members.check_known.Given as goal
 
 abbrev pub invariant-loop-name : goal.invariant-loop-name
-invariant-loop-name l = find (is_unknown (sources_of l.planner) l.ignored) (texts (take l.name-index l.name-items)) ≡ None
+invariant-loop-name l =
+    find (is_unknown (sources_of l.planner) l.ignored) (texts (take l.name-index l.name-items))
+    ≡ None

@@ -1,4 +1,5 @@
-use Rattle.std.proofs.Common.{◌≡◌, ◌==◌, ◌+◌, ◌++◌, ◌∷◌, [], true, false, Some, None, ap, sym, ◌∙◌, inr, take}
+use Rattle.std.proofs.Common.{◌≡◌, ◌==◌, ◌+◌, ◌++◌, ◌∷◌, [], true, false, Some, None, ap, sym, ◌∙◌}
+use Rattle.std.proofs.Common.{inr, take}
 use Rattle.std.specs.List.{find}
 use Rattle.std.specs.Option.{option_map}
 use Rattle.std.proofs.lemmas.Bool.{eq-eqb, eqb-true, false_from_ne_true}
@@ -13,10 +14,19 @@ pub returns-then-found-eq0-clause-err : goal.returns-then-found-eq0-clause-err
 returns-then-found-eq0-clause-err c =
     let p = is_unfound (sources_of c.args.planner.now) in
     let e = c.as_slice-name-items.ensures in
-    let none : find (is_unfound (sources_of c.args.planner.now)) (take c.loop-name.name-index c.as_slice-name-items.result.now) ≡ None = ap (λ ys. find (is_unfound (sources_of c.args.planner.now)) (take c.loop-name.name-index ys)) e ∙ c.loop-name.invariant.passed in
-    let zero : (c.in_ok-found.found.list == 0) ≡ true = eq-eqb c.in_ok-found.found.list 0 c.if-found-eq0.true in
+    let none : find (is_unfound (sources_of c.args.planner.now))
+    (take c.loop-name.name-index c.as_slice-name-items.result.now)
+    ≡ None
+    = ap (λ ys. find (is_unfound (sources_of c.args.planner.now))
+    (take c.loop-name.name-index ys)) e
+    ∙ c.loop-name.invariant.passed in
+    let zero : (c.in_ok-found.found.list == 0) ≡ true
+    = eq-eqb c.in_ok-found.found.list 0 c.if-found-eq0.true in
     inr (ap (option_map unfound)
-    (ap (find p) (sym e) ∙ plain-here p c.as_slice-name-items.result.now c.loop-name.name-index c.name-item.result c.loop-name-test.true c.name-item.is none (ap (λ f. f.list == 0) (sym c.in_ok-found.ensures) ∙ zero))
+    (ap (find p) (sym e)
+    ∙ plain-here p c.as_slice-name-items.result.now c.loop-name.name-index
+    c.name-item.result c.loop-name-test.true c.name-item.is none
+    (ap (λ f. f.list == 0) (sym c.in_ok-found.ensures) ∙ zero))
     ∙ ap (λ o. Some o) (sym c.in_ok-not_found.ensures))
 
 pub loop-name-preserved : goal.loop-name-preserved
@@ -25,15 +35,25 @@ loop-name-preserved c =
     let s = sources_of c.args.planner.now in
     let i = c.loop-name.name-index in
     let e = c.as_slice-name-items.ensures in
-    let none : find (is_unfound (sources_of c.args.planner.now)) (take c.loop-name.name-index c.as_slice-name-items.result.now) ≡ None = ap (λ ys. find (is_unfound (sources_of c.args.planner.now)) (take c.loop-name.name-index ys)) e ∙ c.loop-name.invariant.passed in
-    let some : (c.in_ok-found.found.list == 0) ≡ false = false_from_ne_true _ (λ t. c.if-found-eq0.false (eqb-true c.in_ok-found.found.list 0 t)) in
+    let none : find (is_unfound (sources_of c.args.planner.now))
+    (take c.loop-name.name-index c.as_slice-name-items.result.now)
+    ≡ None
+    = ap (λ ys. find (is_unfound (sources_of c.args.planner.now))
+    (take c.loop-name.name-index ys)) e
+    ∙ c.loop-name.invariant.passed in
+    let some : (c.in_ok-found.found.list == 0) ≡ false
+    = false_from_ne_true _ (λ t. c.if-found-eq0.false (eqb-true c.in_ok-found.found.list 0 t))
+    in
     record {
       founds =
           c.in_ok-push.ensures.items
-          ∙ (λ j. (c.loop-name.invariant.founds ∙ ap (λ ys. founds_of s (take i ys)) (sym e)) j ++ c.in_ok-found.ensures j ∷ [])
-          ∙ sym (map-more (found s.rules s.maps s.use_blacklist) c.as_slice-name-items.result.now i c.name-item.result c.loop-name-test.true c.name-item.is)
+          ∙ (λ j. (c.loop-name.invariant.founds ∙ ap (λ ys. founds_of s (take i ys)) (sym e)) j
+          ++ c.in_ok-found.ensures j ∷ [])
+          ∙ sym (map-more (found s.rules s.maps s.use_blacklist) c.as_slice-name-items.result.now i
+          c.name-item.result c.loop-name-test.true c.name-item.is)
           ∙ ap (λ ys. founds_of s (take (i + 1) ys)) e;
       passed =
           ap (λ ys. find p (take (i + 1) ys)) (sym e)
-          ∙ plain-more p c.as_slice-name-items.result.now i c.name-item.result c.loop-name-test.true c.name-item.is none (ap (λ f. f.list == 0) (sym c.in_ok-found.ensures) ∙ some);
+          ∙ plain-more p c.as_slice-name-items.result.now i c.name-item.result c.loop-name-test.true
+          c.name-item.is none (ap (λ f. f.list == 0) (sym c.in_ok-found.ensures) ∙ some);
     }

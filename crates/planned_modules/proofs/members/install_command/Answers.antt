@@ -12,18 +12,23 @@ returns-in-Some c =
     let name = c.args.name.now in
     let own = c.on-own.result.now in
     sym (sym (command-of-own name c.args.rules.now own c.on-own.ensures)
-    ∙ first-here (λ (r : Bor Rule). command_of name r.now) own c.loop-rule.rule-index c.rule-item.result c.in-Some.command.now c.loop-rule-test.true c.rule-item.is c.loop-rule.invariant (sym c.in-Some.ensures))
+    ∙ first-here (λ (r : Bor Rule). command_of name r.now) own c.loop-rule.rule-index
+    c.rule-item.result c.in-Some.command.now c.loop-rule-test.true c.rule-item.is
+    c.loop-rule.invariant (sym c.in-Some.ensures))
 
 pub loop-rule-preserved : goal.loop-rule-preserved
 loop-rule-preserved c =
     let name = c.args.name.now in
     let own = c.on-own.result.now in
-    first-more (λ (r : Bor Rule). command_of name r.now) own c.loop-rule.rule-index c.rule-item.result c.loop-rule-test.true c.rule-item.is c.loop-rule.invariant (sym c.in_default.ensures)
+    first-more (λ (r : Bor Rule). command_of name r.now) own c.loop-rule.rule-index
+    c.rule-item.result c.loop-rule-test.true c.rule-item.is c.loop-rule.invariant
+    (sym c.in_default.ensures)
 
 pub returns : goal.returns
 returns c =
     let name = c.args.name.now in
     let own = c.on-own.result.now in
     sym (sym (command-of-own name c.args.rules.now own c.on-own.ensures)
-    ∙ ap (λ rs. first (map (λ (r : Bor Rule). command_of name r.now) rs)) (sym (take_all c.loop-rule.rule-index own (omega (arith, c.loop-rule-test.false))))
+    ∙ ap (λ rs. first (map (λ (r : Bor Rule). command_of name r.now) rs))
+    (sym (take_all c.loop-rule.rule-index own (omega (arith, c.loop-rule-test.false))))
     ∙ c.loop-rule.invariant)

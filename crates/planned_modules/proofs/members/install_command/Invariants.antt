@@ -5,4 +5,5 @@ use Rattle.planned_modules.specs.Members.{command_of}
 use Rattle.planned_modules.proofs.members.install_command.Given as goal
 
 abbrev pub invariant-loop-rule : goal.invariant-loop-rule
-invariant-loop-rule l = first (map (λ (r : Bor Rule). command_of l.name r.now) (take l.rule-index l.own)) ≡ None
+invariant-loop-rule l =
+    first (map (λ (r : Bor Rule). command_of l.name r.now) (take l.rule-index l.own)) ≡ None

@@ -6,5 +6,7 @@ use Rattle.planned_modules.proofs.members.marks_but.Goals as goal
 
 pub loop-place-preserved : goal.loop-place-preserved
 loop-place-preserved c =
-    mark-more (λ x. not (is_among c.args.names.now (name_at c.args.modules.now x))) c.loop-place.place c.loop-place.marks.items c.push.new.self.items _ c.loop-place.invariant c.in_ok-push.ensures.items
+    mark-more (λ x. not (is_among c.args.names.now (name_at c.args.modules.now x)))
+    c.loop-place.place c.loop-place.marks.items c.push.new.self.items _ c.loop-place.invariant
+    c.in_ok-push.ensures.items
     (ap not (c.contains.ensures ∙ ap (is_among c.args.names.now) c.name.ensures))

@@ -8,4 +8,5 @@ pub loop-name-preserved : goal.loop-name-preserved
 loop-name-preserved c = λ other.
     c.in_ok-insert.ensures.among other
     ∙ (λ i. c.loop-name.invariant other i || bytes_eq other (c.as_bytes.ensures i))
-    ∙ sym (among-next c.args.names.now c.loop-name.name-index c.name-item.result other c.loop-name-test.true c.name-item.is)
+    ∙ sym (among-next c.args.names.now c.loop-name.name-index c.name-item.result other
+    c.loop-name-test.true c.name-item.is)

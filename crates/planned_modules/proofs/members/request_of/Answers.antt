@@ -8,5 +8,7 @@ use Rattle.planned_modules.proofs.members.request_of.Goals as goal
 
 pub returns-clause-inside : goal.returns-clause-inside
 returns-clause-inside c =
-    let made = c.in_ok-places.ensures ∙ (λ i. places_of (c.modules.ensures i) (c.as_slice.ensures i)) in
-    subst (All (λ y. y < length (modules (sources_of c.args.planner.now)))) (sym made) (places-inside (modules (sources_of c.args.planner.now)) c.args.names.now)
+    let made
+    = c.in_ok-places.ensures ∙ (λ i. places_of (c.modules.ensures i) (c.as_slice.ensures i)) in
+    subst (All (λ y. y < length (modules (sources_of c.args.planner.now)))) (sym made)
+    (places-inside (modules (sources_of c.args.planner.now)) c.args.names.now)

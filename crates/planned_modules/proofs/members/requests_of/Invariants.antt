@@ -9,6 +9,8 @@ use Rattle.planned_modules.proofs.members.requests_of.Given as goal
 abbrev pub invariant-loop-found : goal.invariant-loop-found
 invariant-loop-found l =
     record {
-      items : items_of l.requests.items ≡ map (λ f. places_of (modules (sources_of l.planner)) f.names) (take l.found-index l.founds);
+      items : items_of l.requests.items
+          ≡ map (λ f. places_of (modules (sources_of l.planner)) f.names)
+          (take l.found-index l.founds);
       inside : Inside (length (modules (sources_of l.planner))) l.requests.items;
     }

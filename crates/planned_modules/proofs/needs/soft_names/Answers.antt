@@ -10,5 +10,7 @@ pub returns : goal.returns
 returns c =
     let name = c.args.name.now in
     c.loop-rule.invariant
-    ∙ ap (flat_map (λ (r : Bor Rule). names_on c.args.side name r.now)) (take_all c.loop-rule.rule-index c.on-own.result.now (omega (arith, c.loop-rule-test.false)))
+    ∙ ap (flat_map (λ (r : Bor Rule). names_on c.args.side name r.now))
+    (take_all c.loop-rule.rule-index c.on-own.result.now
+    (omega (arith, c.loop-rule-test.false)))
     ∙ names-of-own name c.args.rules.now c.on-own.result.now c.on-own.ensures c.args.side

@@ -5,4 +5,6 @@ use Rattle.planned_modules.specs.Kept.{names_on, texts}
 use Rattle.planned_modules.proofs.needs.soft_names.Given as goal
 
 abbrev pub invariant-loop-rule : goal.invariant-loop-rule
-invariant-loop-rule l = texts l.names.items ≡ flat_map (λ (r : Bor Rule). names_on l.side l.name r.now) (take l.rule-index l.own)
+invariant-loop-rule l =
+    texts l.names.items
+    ≡ flat_map (λ (r : Bor Rule). names_on l.side l.name r.now) (take l.rule-index l.own)

@@ -16,7 +16,8 @@ returns-clause-marks c =
     let asks = items_of c.args.requests.now in
     let same = c.in_ok-needs.ensures in
     c.in_ok-planned.ensures.marks
-    ∙ (λ i. planned (among (before_once (sources_of (same i)))) set (after_once (sources_of (same i))) asks)
+    ∙ (λ i. planned (among (before_once (sources_of (same i)))) set
+    (after_once (sources_of (same i))) asks)
     ∙ ap (λ r. planned r set (after_once s) asks) (among-once s)
     ∙ planned-once (among (before s)) set (after s) asks
 
@@ -29,8 +30,11 @@ returns-clause-answer c =
     let a = c.in_ok-answer.answer in
     let count : length (modules (sources_of c.in_ok-needs.needs)) ≡ length c.args.free.now =
     ap (λ h. length (modules (sources_of h))) c.in_ok-needs.ensures ∙ sym c.requires.free in
-    let known = subst (λ n. IsPlanned n (before_once t) set (after_once t) asks c.in_ok-planned.planned) count c.in_ok-planned.ensures in
+    let known
+    = subst (λ n. IsPlanned n (before_once t) set (after_once t) asks c.in_ok-planned.planned)
+    count c.in_ok-planned.ensures in
     let answered = c.in_ok-answer.ensures (before_once t) (after_once t) known in
     answer-once (among (before s)) set (after s) asks a
     (subst (λ r. IsAnswer r set (after_once s) asks a) (among-once s)
-    (subst (λ h. IsAnswer (among (before_once (sources_of h))) set (after_once (sources_of h)) asks a) c.in_ok-needs.ensures answered))
+    (subst (λ h. IsAnswer (among (before_once (sources_of h))) set (after_once (sources_of h)) asks
+    a) c.in_ok-needs.ensures answered))

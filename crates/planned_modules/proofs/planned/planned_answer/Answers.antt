@@ -13,13 +13,20 @@ returns-clause-marks c =
     let s = sources_of c.args.planner.now in
     let set = ap marked c.deref.ensures.value ∙ c.in_ok-free.ensures.marks in
     let asks = ap items_of c.deref-2.ensures.value ∙ c.in_ok-requests.ensures.items in
-    subst (λ ys. IfOk c.planned_among.result (λ p. marked p.marks.items ≡ planned (among (before s)) (unloaded s) (after s) ys)) asks
-    (subst (λ xs. IfOk c.planned_among.result (λ p. marked p.marks.items ≡ planned (among (before s)) xs (after s) (items_of c.deref-2.result.now))) set c.planned_among.ensures.marks)
+    subst (λ ys. IfOk c.planned_among.result
+    (λ p. marked p.marks.items ≡ planned (among (before s)) (unloaded s) (after s) ys)) asks
+    (subst (λ xs. IfOk c.planned_among.result
+    (λ p. marked p.marks.items
+    ≡ planned (among (before s)) xs (after s) (items_of c.deref-2.result.now))) set
+    c.planned_among.ensures.marks)
 
 pub returns-clause-answer : goal.returns-clause-answer
 returns-clause-answer c =
     let s = sources_of c.args.planner.now in
     let set = ap marked c.deref.ensures.value ∙ c.in_ok-free.ensures.marks in
     let asks = ap items_of c.deref-2.ensures.value ∙ c.in_ok-requests.ensures.items in
-    subst (λ ys. IfOk c.planned_among.result (λ p. IsAnswer (among (before s)) (unloaded s) (after s) ys p.answer)) asks
-    (subst (λ xs. IfOk c.planned_among.result (λ p. IsAnswer (among (before s)) xs (after s) (items_of c.deref-2.result.now) p.answer)) set c.planned_among.ensures.answer)
+    subst (λ ys. IfOk c.planned_among.result
+    (λ p. IsAnswer (among (before s)) (unloaded s) (after s) ys p.answer)) asks
+    (subst (λ xs. IfOk c.planned_among.result
+    (λ p. IsAnswer (among (before s)) xs (after s) (items_of c.deref-2.result.now)
+    p.answer)) set c.planned_among.ensures.answer)

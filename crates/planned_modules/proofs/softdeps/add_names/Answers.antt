@@ -1,4 +1,5 @@
-use Rattle.std.proofs.Common.{◌≡◌, ◌+◌, ◌++◌, ◌∷◌, [], sym, ap, ◌∙◌, subst, take, append_assoc, append-nil, arith}
+use Rattle.std.proofs.Common.{◌≡◌, ◌+◌, ◌++◌, ◌∷◌, [], sym, ap, ◌∙◌, subst, take, append_assoc}
+use Rattle.std.proofs.Common.{append-nil, arith}
 use Rattle.std.proofs.lemmas.List.{take_all, take_more}
 use Rattle.planned_modules.specs.Planner.{sources_of}
 use Rattle.planned_modules.specs.Softdeps.{IsSoftTable}
@@ -28,8 +29,11 @@ loop-name-preserved c =
     record {
       known = c.in_ok-add_name.ensures.known;
       table = λ names is.
-          subst (λ ns. IsSoftTable s ns c.add_name.new.table.entries) (append_assoc names (take i c.args.more.now) (name ∷ []) ∙ ap (λ ns. names ++ ns) more)
-          (c.in_ok-add_name.ensures.table (names ++ take i c.args.more.now) (c.loop-name.invariant.table names is));
+          subst (λ ns. IsSoftTable s ns c.add_name.new.table.entries)
+          (append_assoc names (take i c.args.more.now) (name ∷ [])
+          ∙ ap (λ ns. names ++ ns) more)
+          (c.in_ok-add_name.ensures.table (names ++ take i c.args.more.now)
+          (c.loop-name.invariant.table names is));
     }
 
 pub returns-clause-table : goal.returns-clause-table
@@ -37,5 +41,8 @@ returns-clause-table c = λ names is.
     let s = sources_of c.args.planner.now in
     subst (λ ns. IsSoftTable s ns c.loop-name.table.entries)
     (ap (λ ns. names ++ take c.loop-name.name-index ns) (sym c.as_slice-name-items.ensures)
-    ∙ ap (λ ns. names ++ ns) (take_all c.loop-name.name-index c.as_slice-name-items.result.now (omega (arith, c.loop-name-test.false)) ∙ c.as_slice-name-items.ensures))
+    ∙ ap (λ ns. names ++ ns)
+    (take_all c.loop-name.name-index c.as_slice-name-items.result.now
+    (omega (arith, c.loop-name-test.false))
+    ∙ c.as_slice-name-items.ensures))
     (c.loop-name.invariant.table names is)

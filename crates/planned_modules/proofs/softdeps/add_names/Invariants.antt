@@ -7,5 +7,6 @@ abbrev pub invariant-loop-name : goal.invariant-loop-name
 invariant-loop-name l =
     record {
       known : KnowsAvailable (sources_of l.planner) l.known.items;
-      table : (names : List (List ℕ)) → IsSoftTable (sources_of l.planner) names l.fn.table.entries → IsSoftTable (sources_of l.planner) (names ++ take l.name-index l.more) l.table.entries;
+      table : (names : List (List ℕ)) → IsSoftTable (sources_of l.planner) names l.fn.table.entries
+          → IsSoftTable (sources_of l.planner) (names ++ take l.name-index l.more) l.table.entries;
     }

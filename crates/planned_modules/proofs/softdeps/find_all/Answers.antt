@@ -1,4 +1,5 @@
-use Rattle.std.proofs.Common.{◌≡◌, ◌+◌, ◌++◌, ◌∷◌, [], ℕ, Bool, Bor, List, true, take, filter, sym, ap, subst, ◌∙◌, inl, inr, arith}
+use Rattle.std.proofs.Common.{◌≡◌, ◌+◌, ◌++◌, ◌∷◌, [], ℕ, Bool, Bor, List, true, take, filter, sym}
+use Rattle.std.proofs.Common.{ap, subst, ◌∙◌, inl, inr, arith}
 use Rattle.std.specs.Prelude.{◌||◌, ◌⊎◌, ◌==◌, not, IfOk}
 use Rattle.std.specs.Option.{unwrap_or}
 use Rattle.std.specs.Str.{bytes_eq}
@@ -8,9 +9,12 @@ use Rattle.name_table.specs.FirstSeen.{is_among}
 use Rattle.relation_order.specs.Search.{with_items}
 use Rattle.planned_modules.specs.Kept.{texts}
 use Rattle.planned_modules.specs.Softdeps.{kept_places}
-use Rattle.planned_modules.proofs.SoftSteps.{found_for, found-more, found-again, among-still, among-last}
+use Rattle.planned_modules.proofs.SoftSteps.{found_for, found-more, found-again, among-still}
+use Rattle.planned_modules.proofs.SoftSteps.{among-last}
 use Rattle.planned_modules.proofs.softdeps.find_all.Goals as goal
-use Rattle.planned_modules.proofs.softdeps.find_all.Goals.{then-places-lt2+in_ok-find_others, else-places-lt2+then-not-contains+in_ok-insert+in_ok-find_others-2, else-places-lt2+else-not-contains}
+use Rattle.planned_modules.proofs.softdeps.find_all.Goals.{then-places-lt2+in_ok-find_others}
+use Rattle.planned_modules.proofs.softdeps.find_all.Goals.{else-places-lt2+then-not-contains+in_ok-insert+in_ok-find_others-2}
+use Rattle.planned_modules.proofs.softdeps.find_all.Goals.{else-places-lt2+else-not-contains}
 
 pub loop-name-preserved : goal.loop-name-preserved
 loop-name-preserved c =
@@ -21,15 +25,19 @@ loop-name-preserved c =
     let name = c.name-item.result.now in
     let bytes = c.as_bytes-name.ensures in
     let under = c.places_under-after.ensures in
-    let more : texts (take (i + 1) c.args.names.now) ≡ texts (take i c.args.names.now) ++ c.name-item.result.now ∷ [] =
-    ap texts (take_more items i c.name-item.result c.loop-name-test.true ∙ ap (λ n. take i items ++ n ∷ []) (sym c.name-item.is))
+    let more : texts (take (i + 1) c.args.names.now)
+    ≡ texts (take i c.args.names.now) ++ c.name-item.result.now ∷ []
+    =
+    ap texts (take_more items i c.name-item.result c.loop-name-test.true
+    ∙ ap (λ n. take i items ++ n ∷ []) (sym c.name-item.is))
     ∙ map-append (λ (n : Bor (List ℕ)). n.now) (take i items) (c.name-item.result ∷ []) in
     elim c.if-places-lt2.branch [
       | then-places-lt2+in_ok-find_others w ↦ record {
         looked_up = λ other h.
             ap (λ names. is_among names other) more
             ∙ among-still f g (texts (take i items)) name other
-            (c.loop-name.invariant.looked_up other (sym (ap (λ names. is_among names other) w.looked_up-is) ∙ h));
+            (c.loop-name.invariant.looked_up other
+            (sym (ap (λ names. is_among names other) w.looked_up-is) ∙ h));
         found =
             ap (λ s. s.keys) w.found-is
             ∙ w.in_ok-find_others.ensures
@@ -42,8 +50,10 @@ loop-name-preserved c =
             ap (λ names. is_among names other) more
             ∙ among-last f g (texts (take i items)) name other
             (either (is_among (texts (take i items)) other) (bytes_eq other name)
-            (or_cases (is_among c.loop-name.looked_up other) (bytes_eq other c.as_bytes-name.result.now)
-            (sym (w.in_ok-insert.ensures.among other) ∙ sym (ap (λ names. is_among names other) w.looked_up-is) ∙ h))
+            (or_cases (is_among c.loop-name.looked_up other)
+            (bytes_eq other c.as_bytes-name.result.now)
+            (sym (w.in_ok-insert.ensures.among other)
+            ∙ sym (ap (λ names. is_among names other) w.looked_up-is) ∙ h))
             (c.loop-name.invariant.looked_up other)
             (λ e. ap (bytes_eq other) (sym bytes) ∙ e));
         found =
@@ -56,12 +66,14 @@ loop-name-preserved c =
       | else-places-lt2+else-not-contains w ↦
           let again : is_among (texts (take i c.args.names.now)) c.name-item.result.now ≡ true =
           ap (is_among (texts (take i items))) (sym bytes)
-          ∙ c.loop-name.invariant.looked_up c.as_bytes-name.result.now (sym w.contains.ensures ∙ w.if-not-contains.false) in
+          ∙ c.loop-name.invariant.looked_up c.as_bytes-name.result.now
+          (sym w.contains.ensures ∙ w.if-not-contains.false) in
           record {
             looked_up = λ other h.
                 ap (λ names. is_among names other) more
                 ∙ among-still f g (texts (take i items)) name other
-                (c.loop-name.invariant.looked_up other (sym (ap (λ names. is_among names other) w.looked_up-is) ∙ h));
+                (c.loop-name.invariant.looked_up other
+                (sym (ap (λ names. is_among names other) w.looked_up-is) ∙ h));
             found =
                 ap (λ s. s.keys) w.found-is
                 ∙ c.loop-name.invariant.found
@@ -80,5 +92,8 @@ returns c =
     let g = λ (name : List ℕ). unwrap_or (kept_places c.args.table.now.entries name) [] in
     let all : c.loop-name.found.keys ≡ found_for f g (texts c.args.names.now) =
     c.loop-name.invariant.found
-    ∙ ap (λ names. found_for f g (texts names)) (take_all c.loop-name.name-index c.args.names.now (omega (arith, c.loop-name-test.false))) in
-    subst (λ places. IfOk c.from_slice.result (λ v. v.items ≡ places)) (c.as_slice.ensures.keys ∙ all) c.from_slice.ensures.items
+    ∙ ap (λ names. found_for f g (texts names))
+    (take_all c.loop-name.name-index c.args.names.now (omega (arith, c.loop-name-test.false)))
+    in
+    subst (λ places. IfOk c.from_slice.result (λ v. v.items ≡ places))
+    (c.as_slice.ensures.keys ∙ all) c.from_slice.ensures.items

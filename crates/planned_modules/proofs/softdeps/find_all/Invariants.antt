@@ -10,6 +10,11 @@ use Rattle.planned_modules.proofs.softdeps.find_all.Given as goal
 abbrev pub invariant-loop-name : goal.invariant-loop-name
 invariant-loop-name l =
     record {
-      looked_up : (other : List ℕ) → is_among l.looked_up other ≡ true → is_among (texts (take l.name-index l.names)) other ≡ true;
-      found : l.found.keys ≡ with_items [] (filter (λ y. not (y == l.place)) (flat_map (λ name. unwrap_or (kept_places l.table.entries name) []) (texts (take l.name-index l.names))));
+      looked_up : (other : List ℕ) → is_among l.looked_up other ≡ true
+          → is_among (texts (take l.name-index l.names)) other ≡ true;
+      found : l.found.keys
+          ≡ with_items []
+          (filter (λ y. not (y == l.place))
+          (flat_map (λ name. unwrap_or (kept_places l.table.entries name) [])
+          (texts (take l.name-index l.names))));
     }

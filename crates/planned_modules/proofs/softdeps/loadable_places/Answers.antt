@@ -10,7 +10,9 @@ use Rattle.planned_modules.proofs.softdeps.loadable_places.Goals as goal
 pub only_loadable-requires-clause-places : goal.only_loadable-requires-clause-places
 only_loadable-requires-clause-places c =
     let names = c.in_ok-found.found.names in
-    let made = c.deref.ensures.value ∙ c.in_ok-places.ensures ∙ (λ j. places_of (c.modules.ensures j) (c.as_slice.ensures j)) in
+    let made
+    = c.deref.ensures.value ∙ c.in_ok-places.ensures
+    ∙ (λ j. places_of (c.modules.ensures j) (c.as_slice.ensures j)) in
     subst (All (λ y. y < length (modules (sources_of c.args.planner.now)))) (sym made)
     (places-inside (modules (sources_of c.args.planner.now)) names)
 
@@ -21,4 +23,5 @@ returns-then-is_empty-clause-places c =
     c.in_ok-places.ensures
     ∙ (λ j. places_of (c.modules.ensures j) (c.as_slice.ensures j))
     ∙ (λ j. places_of (modules s) (c.in_ok-found.ensures j).names)
-    ∙ sym (all-loadable (modules s) s.unmet (places_of (modules s) (found_names s c.args.name.now)) none)
+    ∙ sym (all-loadable (modules s) s.unmet (places_of (modules s) (found_names s c.args.name.now))
+    none)

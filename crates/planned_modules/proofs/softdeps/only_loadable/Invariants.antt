@@ -8,5 +8,7 @@ abbrev pub invariant-loop-y : goal.invariant-loop-y
 invariant-loop-y l =
     record {
       known : KnowsAvailable (sources_of l.planner) l.known.items;
-      kept : l.kept.items ≡ filter (is_available (modules (sources_of l.planner)) (sources_of l.planner).unmet) (take l.y-index l.places);
+      kept : l.kept.items
+          ≡ filter (is_available (modules (sources_of l.planner)) (sources_of l.planner).unmet)
+          (take l.y-index l.places);
     }

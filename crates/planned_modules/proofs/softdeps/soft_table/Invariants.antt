@@ -7,5 +7,6 @@ abbrev pub invariant-loop-rule : goal.invariant-loop-rule
 invariant-loop-rule l =
     record {
       known : KnowsAvailable (sources_of l.planner) l.known.items;
-      table : IsSoftTable (sources_of l.planner) (all_soft_names (take l.rule-index l.rule-items)) l.table.entries;
+      table : IsSoftTable (sources_of l.planner) (all_soft_names (take l.rule-index l.rule-items))
+          l.table.entries;
     }

@@ -4,4 +4,6 @@ use Rattle.provider_rel.specs.Items.{used_places}
 use Rattle.provider_rel.proofs.bindings.all_used.Given as goal
 
 abbrev pub invariant-loop-needs : goal.invariant-loop-needs
-invariant-loop-needs l = map (λ (u : Vec ℕ). u.items) l.all.items ≡ map (λ (b : Vec (Option ℕ)). used_places l.items b.items) (take l.needs-index l.bound)
+invariant-loop-needs l =
+    map (λ (u : Vec ℕ). u.items) l.all.items
+    ≡ map (λ (b : Vec (Option ℕ)). used_places l.items b.items) (take l.needs-index l.bound)

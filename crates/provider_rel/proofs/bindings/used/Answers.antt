@@ -9,6 +9,10 @@ loop-place-preserved c =
     let bound = c.args.bound.now in
     let i = c.loop-place.place-index in
     elim c.match-owner_at.branch [
-      | in-Some+in_ok-push w ↦ rw w.used-is (w.in_ok-push.ensures.items ∙ ap (λ l. l ++ w.in-Some.owner ∷ []) c.loop-place.invariant ∙ used-more is bound i None c.loop-place-test.true w.in-Some.owner w.in-Some.ensures)
-      | in_default w ↦ rw w.used-is (c.loop-place.invariant ∙ used-same is bound i None c.loop-place-test.true w.in_default.ensures)
+      | in-Some+in_ok-push w ↦ rw w.used-is
+          (w.in_ok-push.ensures.items ∙ ap (λ l. l ++ w.in-Some.owner ∷ []) c.loop-place.invariant
+          ∙ used-more is bound i None c.loop-place-test.true w.in-Some.owner w.in-Some.ensures)
+      | in_default w ↦ rw w.used-is
+          (c.loop-place.invariant
+          ∙ used-same is bound i None c.loop-place-test.true w.in_default.ensures)
     ]

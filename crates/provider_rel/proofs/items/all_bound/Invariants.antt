@@ -5,4 +5,6 @@ use Rattle.provider_rel.specs.Items.{bound_of}
 use Rattle.provider_rel.proofs.items.all_bound.Given as goal
 
 abbrev pub invariant-loop-facts : goal.invariant-loop-facts
-invariant-loop-facts l = map (λ (b : Vec (Option ℕ)). b.items) l.bound.items ≡ map (λ (f : Facts). bound_of l.names f.needs) (take l.facts-index l.tree)
+invariant-loop-facts l =
+    map (λ (b : Vec (Option ℕ)). b.items) l.bound.items
+    ≡ map (λ (f : Facts). bound_of l.names f.needs) (take l.facts-index l.tree)

@@ -13,8 +13,11 @@ loop-place-preserved c =
     let i = c.loop-place.place-index in
     let name = name_at (modules_of tree) in
     let named : c.match-get.push ≡ name (get_or places i 0) = elim c.match-get.branch [
-      | in-Some+in_ok-from_slice-in-Some w ↦ w.push-is ∙ w.in_ok-from_slice-in-Some.ensures ∙ w.as_bytes.ensures ∙ name-some tree (get_or places i 0) w.in-Some.facts.now w.in-Some.ensures.item
-      | in-None w ↦ w.push-is ∙ w.new.ensures ∙ name-none tree (get_or places i 0) w.in-None.ensures.item
+      | in-Some+in_ok-from_slice-in-Some w ↦ w.push-is ∙ w.in_ok-from_slice-in-Some.ensures
+          ∙ w.as_bytes.ensures
+          ∙ name-some tree (get_or places i 0) w.in-Some.facts.now w.in-Some.ensures.item
+      | in-None w ↦ w.push-is ∙ w.new.ensures
+          ∙ name-none tree (get_or places i 0) w.in-None.ensures.item
     ] in
     c.in_ok-push.ensures.ok
     ∙ ap (λ n. c.loop-place.names ++ n ∷ []) named

@@ -12,7 +12,11 @@ push_lines-requires c =
     let tree = c.args.tree.now in
     let rows = c.args.bindings.now.bound.items in
     let i = c.loop-i.i in
-    let within : i < length tree = omega (arith, c.loop-i-test.true, ap length c.as_slice-modules.ensures) in
+    let within : i < length tree
+    = omega (arith, c.loop-i-test.true, ap length c.as_slice-modules.ensures) in
     let inside : i < length rows = omega (arith, same-length items bound rows tree c.requires) in
     c.deref.ensures.value
-    ∙ same-at items bound rows tree i c.index.result.now c.index-modules-i.result c.requires inside within c.index.ensures (c.index-modules-i.is ∙ ap (λ l. get_or l i c.index-modules-i.result) c.as_slice-modules.ensures)
+    ∙ same-at items bound rows tree i c.index.result.now c.index-modules-i.result c.requires inside
+    within c.index.ensures
+    (c.index-modules-i.is
+    ∙ ap (λ l. get_or l i c.index-modules-i.result) c.as_slice-modules.ensures)

@@ -5,4 +5,7 @@ use Rattle.provider_rel.proofs.unmet.push_all_lines.Given as goal
 
 abbrev pub invariant-loop-i : goal.invariant-loop-i
 invariant-loop-i l =
-    l.lines ≡ l.initial.lines ++ flat_map (lines_by l.kind l.bindings.known l.bindings.items.items l.bindings.names) (take l.i l.tree)
+    l.lines
+    ≡ l.initial.lines
+    ++ flat_map (lines_by l.kind l.bindings.known l.bindings.items.items l.bindings.names)
+    (take l.i l.tree)

@@ -8,4 +8,8 @@ use Rattle.provider_rel.proofs.unmet.push_lines.Given as goal
 
 abbrev pub invariant-loop-i : goal.invariant-loop-i
 invariant-loop-i l =
-    l.lines ≡ l.initial.lines ++ flat_map (λ (n : StatedNeed). line_if l.kind l.bindings.known l.facts n (item_under l.bindings.items.items (place_of l.bindings.names n.name))) (take l.i l.facts.needs)
+    l.lines
+    ≡ l.initial.lines
+    ++ flat_map (λ (n : StatedNeed). line_if l.kind l.bindings.known l.facts n
+    (item_under l.bindings.items.items (place_of l.bindings.names n.name)))
+    (take l.i l.facts.needs)

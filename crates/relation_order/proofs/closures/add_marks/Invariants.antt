@@ -6,5 +6,8 @@ abbrev pub invariant-loop-k : goal.invariant-loop-k
 invariant-loop-k l =
     record {
       long : length l.row.items ≡ length l.initial.row.items;
-      words : (j : ℕ) → get_or l.row.items j 0 ≡ cond (ltb j l.k) (bit_or (get_or l.initial.row.items j 0) (get_or l.other j 0)) (get_or l.initial.row.items j 0);
+      words : (j : ℕ)
+          → get_or l.row.items j 0
+          ≡ cond (ltb j l.k) (bit_or (get_or l.initial.row.items j 0) (get_or l.other j 0))
+          (get_or l.initial.row.items j 0);
     }

@@ -10,9 +10,12 @@ invariant-loop-at l =
     record {
       within : l.at ≤ length l.items;
       long : length l.row.items ≡ div_ceil (length l.lists) 64;
-      sound : (y : ℕ) → has_mark l.row.items y ≡ true → has (reached (goes l.lists) (below (length l.lists)) l.x) y ≡ true;
-      direct : (p : ℕ) → l.at ≤ p → p < length l.items → has_mark l.row.items (get_or l.items p 0) ≡ true;
-      closed : (y z : ℕ) → has_mark l.row.items y ≡ true → has (below (length l.lists)) z ≡ true → goes l.lists y z ≡ true → has_mark l.row.items z ≡ true;
+      sound : (y : ℕ) → has_mark l.row.items y ≡ true
+          → has (reached (goes l.lists) (below (length l.lists)) l.x) y ≡ true;
+      direct : (p : ℕ) → l.at ≤ p → p < length l.items
+          → has_mark l.row.items (get_or l.items p 0) ≡ true;
+      closed : (y z : ℕ) → has_mark l.row.items y ≡ true → has (below (length l.lists)) z ≡ true
+          → goes l.lists y z ≡ true → has_mark l.row.items z ≡ true;
     }
 
 abbrev pub decreases-loop-at : goal.decreases-loop-at

@@ -9,6 +9,9 @@ abbrev pub invariant-loop-item : goal.invariant-loop-item
 invariant-loop-item l =
     record {
       long : length l.states.items ≡ length l.lists;
-      finished : (p : ℕ) → l.from ≤ p → p < l.from + l.item-index → state_of l.states.items (get_or l.stack p 0) ≡ Done (l.many || goes l.lists (get_or l.stack p 0) (get_or l.stack p 0));
-      rest : (x : ℕ) → ((p : ℕ) → l.from ≤ p → p < length l.stack → get_or l.stack p 0 ≡ x → ⊥) → state_of l.states.items x ≡ state_of l.fn.states.items x;
+      finished : (p : ℕ) → l.from ≤ p → p < l.from + l.item-index
+          → state_of l.states.items (get_or l.stack p 0)
+          ≡ Done (l.many || goes l.lists (get_or l.stack p 0) (get_or l.stack p 0));
+      rest : (x : ℕ) → ((p : ℕ) → l.from ≤ p → p < length l.stack → get_or l.stack p 0 ≡ x → ⊥)
+          → state_of l.states.items x ≡ state_of l.fn.states.items x;
     }

@@ -4,7 +4,8 @@ use Rattle.std.proofs.lemmas.List.Folds.{list_any_more}
 use Rattle.relation_order.specs.Sets.{has, goes}
 use Rattle.relation_order.proofs.distances.add_source.Goals as goal
 
-one-more : (old before here item : Bool) → ((old || (before && item)) || (here && item)) ≡ (old || ((before || here) && item))
+one-more : (old before here item : Bool)
+    → ((old || (before && item)) || (here && item)) ≡ (old || ((before || here) && item))
 one-more true before here item = refl
 one-more false true here true = refl
 one-more false true true false = refl
@@ -21,6 +22,8 @@ loop-y-preserved c =
       goes = λ y x.
           c.in_ok-add_at.ensures.added y x
           ∙ ap (λ b. b || (eqb y place && eqb x c.args.item)) (l.invariant.goes y x)
-          ∙ one-more (goes c.args.sources.now.items y x) (has (take l.y-index targets) y) (eqb y place) (eqb x c.args.item)
-          ∙ ap (λ b. goes c.args.sources.now.items y x || (b && eqb x c.args.item)) (sym (list_any_more (eqb y) targets l.y-index 0 c.loop-y-test.true));
+          ∙ one-more (goes c.args.sources.now.items y x) (has (take l.y-index targets) y)
+          (eqb y place) (eqb x c.args.item)
+          ∙ ap (λ b. goes c.args.sources.now.items y x || (b && eqb x c.args.item))
+          (sym (list_any_more (eqb y) targets l.y-index 0 c.loop-y-test.true));
     }

@@ -7,5 +7,8 @@ abbrev pub invariant-loop-y : goal.invariant-loop-y
 invariant-loop-y l =
     record {
       long : length l.sources.items ≡ length l.initial.sources.items;
-      goes : (y x : ℕ) → goes l.sources.items y x ≡ (goes l.initial.sources.items y x || (has (take l.y-index l.targets) y && eqb x l.item));
+      goes : (y x : ℕ)
+          → goes l.sources.items y x
+          ≡ (goes l.initial.sources.items y x
+          || (has (take l.y-index l.targets) y && eqb x l.item));
     }

@@ -8,5 +8,6 @@ abbrev pub invariant-loop-y : goal.invariant-loop-y
 invariant-loop-y l =
     record {
       long : length l.far.items ≡ length l.initial.far.items;
-      finds : Finds (λ x. list_any (λ y. goes l.sources y x) (take l.y-index l.last)) l.round l.none l.initial.far.items l.far.items [] l.found.items;
+      finds : Finds (λ x. list_any (λ y. goes l.sources y x) (take l.y-index l.last)) l.round l.none
+          l.initial.far.items l.far.items [] l.found.items;
     }

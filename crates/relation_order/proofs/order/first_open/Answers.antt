@@ -10,5 +10,9 @@ loop-at-preserved c =
     let listed = c.args.listed.now in
     record {
       within = omega arith;
-      front = All-more (λ y. slice_index_or members y false ≡ true → slice_index_or listed y false ≡ true) c.args.items.now c.loop-at.at 0 c.loop-at-test.true c.loop-at.invariant.front (closed-listed _ _ (sym c.is_open.ensures ∙ c.if-not-is_open.true));
+      front
+          = All-more
+          (λ y. slice_index_or members y false ≡ true → slice_index_or listed y false ≡ true)
+          c.args.items.now c.loop-at.at 0 c.loop-at-test.true c.loop-at.invariant.front
+          (closed-listed _ _ (sym c.is_open.ensures ∙ c.if-not-is_open.true));
     }

@@ -9,6 +9,8 @@ abbrev pub invariant-loop-round : goal.invariant-loop-round
 invariant-loop-round l =
     record {
       fits : Fits l.lists l.members l.builder;
-      placing : Placing (goes l.lists) (marked l.members) l.builder.order.items l.builder.ready.keys (goes l.builder.waits.items) [];
-      order : l.builder.order.items ≡ times l.round (with_next (goes l.lists) (marked l.members)) [];
+      placing : Placing (goes l.lists) (marked l.members) l.builder.order.items l.builder.ready.keys
+          (goes l.builder.waits.items) [];
+      order : l.builder.order.items
+          ≡ times l.round (with_next (goes l.lists) (marked l.members)) [];
     }

@@ -11,7 +11,9 @@ returns c =
     let table = c.args.table.now in
     let name = c.args.name.now in
     c.command_at.ensures
-    ∙ ap (λ rs. option_and_then removing_command (option_and_then (slice_get rs) c.place.result)) c.as_slice.ensures
-    ∙ ap (λ p. option_and_then removing_command (option_and_then (slice_get rules) p)) c.place.ensures
+    ∙ ap (λ rs. option_and_then removing_command (option_and_then (slice_get rs) c.place.result))
+    c.as_slice.ensures
+    ∙ ap (λ p. option_and_then removing_command (option_and_then (slice_get rules) p))
+    c.place.ensures
     ∙ by-place rules (place_of table name)
     ∙ command-is rules table c.requires name

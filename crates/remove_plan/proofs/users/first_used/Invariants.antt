@@ -7,4 +7,6 @@ use Rattle.remove_plan.proofs.users.first_used.Given as goal
 
 abbrev pub invariant-loop-j : goal.invariant-loop-j
 invariant-loop-j l =
-    in_use l.machine (is_marked l.asked) ≡ first (map (used_member l.machine (is_marked l.asked)) (range_with_len l.j (length l.machine.entries - l.j)))
+    in_use l.machine (is_marked l.asked)
+    ≡ first (map (used_member l.machine (is_marked l.asked))
+    (range_with_len l.j (length l.machine.entries - l.j)))

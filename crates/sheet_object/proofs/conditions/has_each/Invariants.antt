@@ -5,4 +5,6 @@ use Rattle.sheet_object.specs.Sheet.{is_among}
 use Rattle.sheet_object.proofs.conditions.has_each.Given as goal
 
 abbrev pub invariant-loop-item : goal.invariant-loop-item
-invariant-loop-item g l = (others : List (List ℕ)) → IsTableOf l.table (map (λ n. Some n) others) → list_all (is_among others) (map g.T.Named.name (take l.item-index l.items)) ≡ true
+invariant-loop-item g l =
+    (others : List (List ℕ)) → IsTableOf l.table (map (λ n. Some n) others)
+    → list_all (is_among others) (map g.T.Named.name (take l.item-index l.items)) ≡ true

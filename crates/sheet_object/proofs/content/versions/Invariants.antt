@@ -4,4 +4,5 @@ use Rattle.sheet_object.specs.Contents.{version_bytes}
 use Rattle.sheet_object.proofs.content.versions.Given as goal
 
 abbrev pub invariant-loop-version : goal.invariant-loop-version
-invariant-loop-version l = l.content.items ≡ flat_map version_bytes (take l.version-index l.versions)
+invariant-loop-version l =
+    l.content.items ≡ flat_map version_bytes (take l.version-index l.versions)

@@ -18,5 +18,12 @@ loop-space-preserved c =
           ∙ ap (λ l. l ++ c.loop-space.place ∷ []) now.places
           ∙ ap (λ n. map f (range_with_len 0 i) ++ n ∷ []) now.place
           ∙ sym (map-range_with_len_more f 0 i i (zero-add i));
-      place = omega (arith, now.place, ap length c.as_bytes.ensures, c.in-Some.ensures.1, text_place-more spaces i x c.loop-space-test.true c.space-item.is);
+      place
+          = omega (
+            arith,
+            now.place,
+            ap length c.as_bytes.ensures,
+            c.in-Some.ensures.1,
+            text_place-more spaces i x c.loop-space-test.true c.space-item.is,
+          );
     }

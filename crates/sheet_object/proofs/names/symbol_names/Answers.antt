@@ -8,5 +8,8 @@ pub returns : goal.returns
 returns c =
     c.in_ok-push_names-2.ensures
     ∙ ap (λ l. l ++ map (λ (n : SheetNeed). n.name) c.as_slice-2.result.now)
-    (c.in_ok-push_names.ensures ∙ ap (λ l. names_of l ++ map (λ (e : SheetExport). e.name) c.as_slice.result.now) c.new-symbols.ensures.items)
-    ∙ (λ i. map (λ (e : SheetExport). e.name) (c.as_slice.ensures i) ++ map (λ (n : SheetNeed). n.name) (c.as_slice-2.ensures i))
+    (c.in_ok-push_names.ensures
+    ∙ ap (λ l. names_of l ++ map (λ (e : SheetExport). e.name) c.as_slice.result.now)
+    c.new-symbols.ensures.items)
+    ∙ (λ i. map (λ (e : SheetExport). e.name) (c.as_slice.ensures i)
+    ++ map (λ (n : SheetNeed). n.name) (c.as_slice-2.ensures i))

@@ -18,7 +18,10 @@ returns-in_err-listed g c = λ out err.
     let i = c.loop-root.root-index in
     let name = folder_name c.args.tool in
     c.loop-root.invariant out err _ _
-    (subst (λ rest. Follows (λ (x : List ListedFolder). x) (folders_rest name rest c.loop-root.listed) (world (g.F.Reads.seen c.loop-root.files) out err) (world (g.F.Reads.seen c.with_folder.new.files) out err) c.from_residual.result)
+    (subst (λ rest. Follows (λ (x : List ListedFolder). x)
+    (folders_rest name rest c.loop-root.listed)
+    (world (g.F.Reads.seen c.loop-root.files) out err)
+    (world (g.F.Reads.seen c.with_folder.new.files) out err) c.from_residual.result)
     (sym (next-item roots i c.root-item.result c.loop-root-test.true c.root-item.is))
     (named-folder name _ _ _ _ _ _ _ c.folder_name-name.ensures
     (exits _ _ (folders_rest name (drop (i + 1) roots)) p.1 p.2 (c.in_err-listed.ensures out err))))
@@ -29,7 +32,9 @@ loop-root-preserved g c = λ out err new r after.
     let i = c.loop-root.root-index in
     let name = folder_name c.args.tool in
     c.loop-root.invariant out err new r
-    (subst (λ rest. Follows (λ (x : List ListedFolder). x) (folders_rest name rest c.loop-root.listed) (world (g.F.Reads.seen c.loop-root.files) out err) new r)
+    (subst (λ rest. Follows (λ (x : List ListedFolder). x)
+    (folders_rest name rest c.loop-root.listed)
+    (world (g.F.Reads.seen c.loop-root.files) out err) new r)
     (sym (next-item roots i c.root-item.result c.loop-root-test.true c.root-item.is))
     (named-folder name _ _ _ _ _ _ _ c.folder_name-name.ensures
     (next (folders_rest name (drop (i + 1) roots)) (c.in_ok-listed.ensures out err) after)))
@@ -37,6 +42,9 @@ loop-root-preserved g c = λ out err new r after.
 pub returns : goal.returns
 returns g c = λ out err.
     c.loop-root.invariant out err _ _
-    (subst (λ rest. Follows (λ (x : List ListedFolder). x) (folders_rest (folder_name c.args.tool) rest c.loop-root.listed) (world (g.F.Reads.seen c.loop-root.files) out err) (world (g.F.Reads.seen c.loop-root.files) out err) (Ok c.loop-root.listed))
+    (subst (λ rest. Follows (λ (x : List ListedFolder). x)
+    (folders_rest (folder_name c.args.tool) rest c.loop-root.listed)
+    (world (g.F.Reads.seen c.loop-root.files) out err)
+    (world (g.F.Reads.seen c.loop-root.files) out err) (Ok c.loop-root.listed))
     (sym (drop_all c.loop-root.root-index c.args.roots.now c.loop-root-test.false))
     (gave (λ (x : List ListedFolder). x) _ c.loop-root.listed))

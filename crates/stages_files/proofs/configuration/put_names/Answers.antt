@@ -12,12 +12,18 @@ loop-name-preserved c = λ files before.
     let folder = c.args.folder.now.path in
     let names = c.args.folder.now.names in
     let i = c.loop-name.name-index in
-    c.in_ok-put_name.ensures (with_names folder (take i names) files) (c.loop-name.invariant files before)
-    ∙ ap (λ n. fin.entries (with_names folder (n ∷ []) (with_names folder (take i names) files))) c.as_bytes.ensures
+    c.in_ok-put_name.ensures (with_names folder (take i names) files)
+    (c.loop-name.invariant files before)
+    ∙ ap (λ n. fin.entries (with_names folder (n ∷ []) (with_names folder (take i names) files)))
+    c.as_bytes.ensures
     ∙ ap fin.entries (names-more folder (take i names) c.name-item.result files)
-    ∙ ap (λ ns. fin.entries (with_names folder ns files)) (one-more _ names i c.name-item.result c.as_slice-name-items.ensures c.loop-name-test.true c.name-item.is)
+    ∙ ap (λ ns. fin.entries (with_names folder ns files))
+    (one-more _ names i c.name-item.result c.as_slice-name-items.ensures c.loop-name-test.true
+    c.name-item.is)
 
 pub returns : goal.returns
 returns c = λ files before.
     c.loop-name.invariant files before
-    ∙ ap (λ ns. fin.entries (with_names c.args.folder.now.path ns files)) (all-names _ c.args.folder.now.names c.loop-name.name-index c.as_slice-name-items.ensures c.loop-name-test.false)
+    ∙ ap (λ ns. fin.entries (with_names c.args.folder.now.path ns files))
+    (all-names _ c.args.folder.now.names c.loop-name.name-index c.as_slice-name-items.ensures
+    c.loop-name-test.false)

@@ -7,4 +7,5 @@ use Rattle.stages_files.proofs.configuration.put_names.Given as goal
 abbrev pub invariant-loop-name : goal.invariant-loop-name
 invariant-loop-name l =
     (files : Named) → entries_in_bytes l.fn.found.entries ≡ fin.entries files
-    → entries_in_bytes l.found.entries ≡ fin.entries (with_names l.folder.path (take l.name-index l.folder.names) files)
+    → entries_in_bytes l.found.entries
+    ≡ fin.entries (with_names l.folder.path (take l.name-index l.folder.names) files)

@@ -16,7 +16,9 @@ returns-in_err-read-clause-follows g c = λ out err.
     let paths = c.args.paths.now in
     let i = c.loop-path.path-index in
     c.loop-path.invariant.follows out err _ _
-    (subst (λ rest. Follows (λ (x : List ConfFile). x) (files_rest rest c.loop-path.read) (world (g.F.Reads.seen c.loop-path.files) out err) (world (g.F.Reads.seen c.with_file.new.files) out err) c.from_residual.result)
+    (subst (λ rest. Follows (λ (x : List ConfFile). x) (files_rest rest c.loop-path.read)
+    (world (g.F.Reads.seen c.loop-path.files) out err)
+    (world (g.F.Reads.seen c.with_file.new.files) out err) c.from_residual.result)
     (sym (next-item paths i c.path-item.result c.loop-path-test.true c.path-item.is))
     (exits _ _ (files_rest (drop (i + 1) paths)) p.1 p.2 (c.in_err-read.ensures.follows out err)))
 
@@ -26,7 +28,8 @@ loop-path-preserved g c = record {
       let paths = c.args.paths.now in
       let i = c.loop-path.path-index in
       c.loop-path.invariant.follows out err new r
-      (subst (λ rest. Follows (λ (x : List ConfFile). x) (files_rest rest c.loop-path.read) (world (g.F.Reads.seen c.loop-path.files) out err) new r)
+      (subst (λ rest. Follows (λ (x : List ConfFile). x) (files_rest rest c.loop-path.read)
+      (world (g.F.Reads.seen c.loop-path.files) out err) new r)
       (sym (next-item paths i c.path-item.result c.loop-path-test.true c.path-item.is))
       (next (files_rest (drop (i + 1) paths)) (c.in_ok-read.ensures.follows out err) after));
   limit = c.in_ok-read.ensures.limit;
@@ -35,6 +38,8 @@ loop-path-preserved g c = record {
 pub returns-clause-follows : goal.returns-clause-follows
 returns-clause-follows g c = λ out err.
     c.loop-path.invariant.follows out err _ _
-    (subst (λ rest. Follows (λ (x : List ConfFile). x) (files_rest rest c.loop-path.read) (world (g.F.Reads.seen c.loop-path.files) out err) (world (g.F.Reads.seen c.loop-path.files) out err) (Ok c.loop-path.read))
+    (subst (λ rest. Follows (λ (x : List ConfFile). x) (files_rest rest c.loop-path.read)
+    (world (g.F.Reads.seen c.loop-path.files) out err)
+    (world (g.F.Reads.seen c.loop-path.files) out err) (Ok c.loop-path.read))
     (sym (drop_all c.loop-path.path-index c.args.paths.now c.loop-path-test.false))
     (gave (λ (x : List ConfFile). x) _ c.loop-path.read))

@@ -14,6 +14,8 @@ returns-in_err-paths-clause-follows g c = λ out err.
 
 pub returns-clause-follows : goal.returns-clause-follows
 returns-clause-follows g c = λ out err.
-    subst (λ paths. Follows (λ (x : List ConfFile). x) (reads_files paths) (world (g.F.Reads.seen c.args.files.now) out err) (world (g.F.Reads.seen c.read_files.new.files) out err) c.read_files.result)
+    subst (λ paths. Follows (λ (x : List ConfFile). x) (reads_files paths)
+    (world (g.F.Reads.seen c.args.files.now) out err)
+    (world (g.F.Reads.seen c.read_files.new.files) out err) c.read_files.result)
     (c.as_slice-2.ensures ∙ c.in_ok-paths.ensures ∙ ap paths_of c.as_slice.ensures)
     (c.read_files.ensures.follows out err)

@@ -14,4 +14,6 @@ returns-in_err-bytes g c = λ out err.
 pub returns : goal.returns
 returns g c = λ out err.
     next (adopted c.args.path) (c.in_ok-bytes.ensures.follows out err)
-    (answered (λ (x : Index). x) (index_outcome c.args.path c.in_ok-bytes.bytes (index_fault c.in_ok-bytes.bytes)) _ c.adopt_index.result c.adopt_index.ensures)
+    (answered (λ (x : Index). x)
+    (index_outcome c.args.path c.in_ok-bytes.bytes (index_fault c.in_ok-bytes.bytes)) _
+    c.adopt_index.result c.adopt_index.ensures)

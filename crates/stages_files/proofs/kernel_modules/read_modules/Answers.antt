@@ -18,14 +18,21 @@ returns-in_err-file g c = λ out err.
 
 pub returns-in_err-index : goal.returns-in_err-index
 returns-in_err-index g c = λ out err.
-    let p = err_from_is_err_and c.from_residual-in_err-index.result c.from_residual-in_err-index.ensures.1 in
-    subst (λ file. Follows (λ (x : KernelModules). x) (reads_index file >>= listed c.args.folder) (world (g.F.Reads.seen c.args.files.now) out err) (world (g.F.Reads.seen c.read_index.new.files) out err) c.from_residual-in_err-index.result)
+    let p
+    = err_from_is_err_and c.from_residual-in_err-index.result
+    c.from_residual-in_err-index.ensures.1 in
+    subst (λ file. Follows (λ (x : KernelModules). x) (reads_index file >>= listed c.args.folder)
+    (world (g.F.Reads.seen c.args.files.now) out err)
+    (world (g.F.Reads.seen c.read_index.new.files) out err) c.from_residual-in_err-index.result)
     c.in_ok-file.ensures
     (exits _ _ (listed c.args.folder) p.1 p.2 (c.in_err-index.ensures out err))
 
 pub returns : goal.returns
 returns g c = λ out err.
     next (listed c.args.folder)
-    (subst (λ file. Follows (λ (x : Index). x) (reads_index file) (world (g.F.Reads.seen c.args.files.now) out err) (world (g.F.Reads.seen c.read_index.new.files) out err) (Ok c.in_ok-index.index))
+    (subst (λ file. Follows (λ (x : Index). x) (reads_index file)
+    (world (g.F.Reads.seen c.args.files.now) out err)
+    (world (g.F.Reads.seen c.read_index.new.files) out err) (Ok c.in_ok-index.index))
     c.in_ok-file.ensures (c.in_ok-index.ensures out err))
-    (gave (λ (x : KernelModules). x) _ (record { folder = c.args.folder; index = c.in_ok-index.index }))
+    (gave (λ (x : KernelModules). x) _
+    (record { folder = c.args.folder; index = c.in_ok-index.index }))

@@ -11,4 +11,5 @@ returns-in-Some-symvers g c = λ out err.
 
 pub returns-in-None-symvers : goal.returns-in-None-symvers
 returns-in-None-symvers g c = λ out err.
-    by_neither _ _ _ _ c.in-None.is c.in-None-symvers.is c.unknown.ensures.known c.unknown.ensures.exports
+    by_neither _ _ _ _ c.in-None.is c.in-None-symvers.is c.unknown.ensures.known
+    c.unknown.ensures.exports

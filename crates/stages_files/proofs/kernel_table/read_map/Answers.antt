@@ -13,4 +13,5 @@ returns-in_err-bytes g c = λ out err.
 pub returns : goal.returns
 returns g c = λ out err.
     next (map_read c.args.file) (c.in_ok-bytes.ensures.follows out err)
-    (answered table_of (table_outcome c.args.file (exports_of_map c.in_ok-bytes.bytes)) _ c.map_table.result c.map_table.ensures)
+    (answered table_of (table_outcome c.args.file (exports_of_map c.in_ok-bytes.bytes)) _
+    c.map_table.result c.map_table.ensures)

@@ -16,9 +16,13 @@ use Rattle.stages_files.proofs.module_file.read_sections.Goals as goal
 
 pub returns-then-is_compressed : goal.returns-then-is_compressed
 returns-then-is_compressed g c = λ out err.
-    chosen (λ (x : FileSections). x) (is_compressed c.args.path) (ends (Refused (Compressed c.args.path))) (reads c.args.path >>= checked c.args.path) _ _ _ c.if-is_compressed.ensures
-    (answered (λ (x : FileSections). x) (end (Refused (Compressed c.args.path))) _ (Err c.from.result)
-    (subst (λ stop. Answers (λ (x : FileSections). x) (end (Refused (Compressed c.args.path))) (Err stop)) (sym c.from.ensures) refl))
+    chosen (λ (x : FileSections). x) (is_compressed c.args.path)
+    (ends (Refused (Compressed c.args.path))) (reads c.args.path >>= checked c.args.path) _ _ _
+    c.if-is_compressed.ensures
+    (answered (λ (x : FileSections). x) (end (Refused (Compressed c.args.path))) _
+    (Err c.from.result)
+    (subst (λ stop. Answers (λ (x : FileSections). x) (end (Refused (Compressed c.args.path)))
+    (Err stop)) (sym c.from.ensures) refl))
 
 pub returns-in_err-bytes : goal.returns-in_err-bytes
 returns-in_err-bytes g c = λ out err.
@@ -30,4 +34,6 @@ pub returns : goal.returns
 returns g c = λ out err.
     passed_over _ _ _ _ _ _ _ c.if-is_compressed.ensures
     (next (checked c.args.path) (c.in_ok-bytes.ensures.follows out err)
-    (answered (λ (x : FileSections). x) (sections_outcome c.args.path c.in_ok-bytes.bytes (shape_fault c.in_ok-bytes.bytes)) _ c.check_sections.result c.check_sections.ensures))
+    (answered (λ (x : FileSections). x)
+    (sections_outcome c.args.path c.in_ok-bytes.bytes (shape_fault c.in_ok-bytes.bytes)) _
+    c.check_sections.result c.check_sections.ensures))

@@ -10,4 +10,5 @@ returns-in_err-path g c = λ out err.
 
 pub returns : goal.returns
 returns g c = λ out err.
-    at-index c.args.folder.now c.args.name.now c.in_ok-path.path _ _ _ c.in_ok-path.ensures (c.read_index.ensures out err)
+    at-index c.args.folder.now c.args.name.now c.in_ok-path.path _ _ _ c.in_ok-path.ensures
+    (c.read_index.ensures out err)

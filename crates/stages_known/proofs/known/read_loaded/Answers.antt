@@ -13,7 +13,9 @@ returns-in_err-bytes-in-Some g c = λ out err.
 
 pub returns-in_err-loaded-in-Some : goal.returns-in_err-loaded-in-Some
 returns-in_err-loaded-in-Some g c = λ out err.
-    let p = err_from_is_err_and c.from_residual-in_err-loaded-in-Some.result c.from_residual-in_err-loaded-in-Some.ensures.1 in
+    let p
+    = err_from_is_err_and c.from_residual-in_err-loaded-in-Some.result
+    c.from_residual-in_err-loaded-in-Some.ensures.1 in
     given-path c.args.path c.in-Some.path _ _ _ c.in-Some.is
     (next loaded_stated (c.in_ok-bytes-in-Some.ensures.follows out err) (wants _ _ _ _ p.1 p.2))
 
@@ -21,7 +23,8 @@ pub returns-in_ok-loaded-in-Some : goal.returns-in_ok-loaded-in-Some
 returns-in_ok-loaded-in-Some g c = λ out err.
     given-path c.args.path c.in-Some.path _ _ _ c.in-Some.is
     (next loaded_stated (c.in_ok-bytes-in-Some.ensures.follows out err)
-    (loaded-given c.in_ok-bytes-in-Some.bytes c.in_ok-loaded-in-Some.loaded _ (c.in_ok-loaded-in-Some.ensures ∙ ap loaded_of c.as_bytes.ensures)))
+    (loaded-given c.in_ok-bytes-in-Some.bytes c.in_ok-loaded-in-Some.loaded _
+    (c.in_ok-loaded-in-Some.ensures ∙ ap loaded_of c.as_bytes.ensures)))
 
 pub returns-in-None : goal.returns-in-None
 returns-in-None g c = λ out err.

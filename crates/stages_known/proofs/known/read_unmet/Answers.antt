@@ -15,7 +15,9 @@ returns-in_err-path g c = λ out err.
 
 pub returns-in_err-bytes : goal.returns-in_err-bytes
 returns-in_err-bytes g c = λ out err.
-    let p = err_from_is_err_and c.from_residual-in_err-bytes.result c.from_residual-in_err-bytes.ensures.1 in
+    let p
+    = err_from_is_err_and c.from_residual-in_err-bytes.result
+    c.from_residual-in_err-bytes.ensures.1 in
     at-unmet c.args.folder.now c.in_ok-path.path _ _ _ c.in_ok-path.ensures
     (exits _ _ (unmet_stated c.in_ok-path.path) p.1 p.2 (c.in_err-bytes.ensures.follows out err))
 
@@ -24,5 +26,7 @@ returns g c = λ out err.
     let path = c.in_ok-path.path in
     at-unmet c.args.folder.now path _ _ _ c.in_ok-path.ensures
     (next (unmet_stated path) (c.in_ok-bytes.ensures.follows out err)
-    (answered (λ (x : List Unbound). x) (stated_outcome (unmet_of path c.in_ok-bytes.bytes)) _ c.unmet_in.result
-    (subst (λ bytes. Answers (λ (x : List Unbound). x) (stated_outcome (unmet_of path bytes)) c.unmet_in.result) c.as_bytes.ensures c.unmet_in.ensures)))
+    (answered (λ (x : List Unbound). x) (stated_outcome (unmet_of path c.in_ok-bytes.bytes)) _
+    c.unmet_in.result
+    (subst (λ bytes. Answers (λ (x : List Unbound). x) (stated_outcome (unmet_of path bytes))
+    c.unmet_in.result) c.as_bytes.ensures c.unmet_in.ensures)))

@@ -6,4 +6,6 @@ pub returns-in-Ok : goal.returns-in-Ok
 returns-in-Ok c = stated_ok (rules_of c.args.files.now) c.in-Ok.rules c.in-Ok.ensures.ok
 
 pub returns-in-Err : goal.returns-in-Err
-returns-in-Err c = stated_fault (rules_of c.args.files.now) c.in-Err.fault c.stop_of_fault.result c.stop_of_fault.ensures c.in-Err.ensures.err
+returns-in-Err c =
+    stated_fault (rules_of c.args.files.now) c.in-Err.fault c.stop_of_fault.result
+    c.stop_of_fault.ensures c.in-Err.ensures.err

@@ -9,5 +9,7 @@ use Rattle.stages_known.proofs.named.names_by.Given as goal
 abbrev pub invariant-loop-name : goal.invariant-loop-name
 invariant-loop-name l =
     (known : Known) → known.rules ≡ l.lookup.rules → known.indexes ≡ l.lookup.indexes
-    → (find (is_unknown known l.use_blacklist) (drop l.name-index l.names) ≡ find (is_unknown known l.use_blacklist) l.names)
-    × (l.all ++ found_names known l.use_blacklist (drop l.name-index l.names) ≡ found_names known l.use_blacklist l.names)
+    → (find (is_unknown known l.use_blacklist) (drop l.name-index l.names)
+    ≡ find (is_unknown known l.use_blacklist) l.names)
+    × (l.all ++ found_names known l.use_blacklist (drop l.name-index l.names)
+    ≡ found_names known l.use_blacklist l.names)

@@ -12,7 +12,11 @@ use Rattle.stages_loads.proofs.listed.load_listed.Goals as goal
 pub loop-left-init : goal.loop-left-init
 loop-left-init g c = record {
   leads = λ out err.
-      subst (λ names. LeadsTo (λ (x : Machine). x) (loads_listed c.args.folder.now c.args.index.now c.args.machine c.args.names.now) (world (g.F.Reads.seen c.args.files.now) out err) (loads_listed c.args.folder.now c.args.index.now c.args.machine names) (world (g.F.Reads.seen c.args.files.now) out err))
+      subst (λ names. LeadsTo (λ (x : Machine). x)
+      (loads_listed c.args.folder.now c.args.index.now c.args.machine c.args.names.now)
+      (world (g.F.Reads.seen c.args.files.now) out err)
+      (loads_listed c.args.folder.now c.args.index.now c.args.machine names)
+      (world (g.F.Reads.seen c.args.files.now) out err))
       (sym (take_all (length c.args.names.now) c.args.names.now (omega arith)))
       (leads-start (λ (x : Machine). x) _ _);
   within = omega arith;
@@ -24,8 +28,11 @@ returns-in_err-machine g c = λ out err.
     let folder = c.args.folder.now in
     let index = c.args.index.now in
     let names = c.args.names.now in
-    leads-oldest (loads_listed_one folder index) _ _ _ c.loop-left.machine names c.loop-left.left c.index-names-left.result c.loop-left-test.true c.loop-left.invariant.within c.index-names-left.is (c.loop-left.invariant.leads out err) _ _
-    (exits _ _ (listed_others folder index (take (c.loop-left.left - 1) names)) p.1 p.2 (c.in_err-machine.ensures out err))
+    leads-oldest (loads_listed_one folder index) _ _ _ c.loop-left.machine names c.loop-left.left
+    c.index-names-left.result c.loop-left-test.true c.loop-left.invariant.within
+    c.index-names-left.is (c.loop-left.invariant.leads out err) _ _
+    (exits _ _ (listed_others folder index (take (c.loop-left.left - 1) names)) p.1 p.2
+    (c.in_err-machine.ensures out err))
 
 pub loop-left-preserved : goal.loop-left-preserved
 loop-left-preserved g c =
@@ -34,12 +41,19 @@ loop-left-preserved g c =
     let names = c.args.names.now in
     record {
       leads = λ out err.
-          leads-on (λ (x : Machine). x) _ _ _ _ (loads_listed_one folder index) c.loop-left.machine c.index-names-left.result (reverse (take (c.loop-left.left - 1) names)) c.in_ok-machine.machine
-          (leads-oldest (loads_listed_one folder index) _ _ _ c.loop-left.machine names c.loop-left.left c.index-names-left.result c.loop-left-test.true c.loop-left.invariant.within c.index-names-left.is (c.loop-left.invariant.leads out err))
+          leads-on (λ (x : Machine). x) _ _ _ _ (loads_listed_one folder index) c.loop-left.machine
+          c.index-names-left.result (reverse (take (c.loop-left.left - 1) names))
+          c.in_ok-machine.machine
+          (leads-oldest (loads_listed_one folder index) _ _ _ c.loop-left.machine names
+          c.loop-left.left c.index-names-left.result c.loop-left-test.true
+          c.loop-left.invariant.within c.index-names-left.is
+          (c.loop-left.invariant.leads out err))
           (c.in_ok-machine.ensures out err);
       within = omega (arith, c.loop-left.invariant.within);
     }
 
 pub returns : goal.returns
 returns g c = λ out err.
-    leads-none (loads_listed_one c.args.folder.now c.args.index.now) _ _ _ c.loop-left.machine c.args.names.now c.loop-left.left c.loop-left-test.false (c.loop-left.invariant.leads out err)
+    leads-none (loads_listed_one c.args.folder.now c.args.index.now) _ _ _ c.loop-left.machine
+    c.args.names.now c.loop-left.left c.loop-left-test.false
+    (c.loop-left.invariant.leads out err)

@@ -9,7 +9,8 @@ use Rattle.stages_loads.proofs.listed.load_listed.Given as goal
 -- Whatever loads the newer modules from here loads all from the start.
 abbrev pub invariant-loop-left : goal.invariant-loop-left
 invariant-loop-left g l = record {
-  leads : (out err : OutSeen) → LeadsTo (λ (x : Machine). x) (loads_listed l.folder l.index l.fn.machine l.names)
+  leads : (out err : OutSeen)
+      → LeadsTo (λ (x : Machine). x) (loads_listed l.folder l.index l.fn.machine l.names)
       (world (g.F.Reads.seen l.fn.files) out err)
       (loads_listed l.folder l.index l.machine (take l.left l.names))
       (world (g.F.Reads.seen l.files) out err);

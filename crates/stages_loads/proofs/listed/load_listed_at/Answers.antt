@@ -10,10 +10,12 @@ pub returns-in_err-path : goal.returns-in_err-path
 returns-in_err-path g c = λ out err.
     let p = err_from_is_err_and c.from_residual.result c.from_residual.ensures.1 in
     exits _ _ (listed_found c.args.folder.now c.args.machine) p.1 p.2
-    (answered (λ (x : List ℕ). x) (listed_outcome c.args.name.now (option_copied c.args.found)) _ (Err _) c.in_err-path.ensures)
+    (answered (λ (x : List ℕ). x) (listed_outcome c.args.name.now (option_copied c.args.found)) _
+    (Err _) c.in_err-path.ensures)
 
 pub returns : goal.returns
 returns g c = λ out err.
     next (listed_found c.args.folder.now c.args.machine)
-    (answered (λ (x : List ℕ). x) (listed_outcome c.args.name.now (option_copied c.args.found)) _ (Ok c.in_ok-path.path) c.in_ok-path.ensures)
+    (answered (λ (x : List ℕ). x) (listed_outcome c.args.name.now (option_copied c.args.found)) _
+    (Ok c.in_ok-path.path) c.in_ok-path.ensures)
     (c.load_listed_file.ensures out err)

@@ -16,4 +16,5 @@ pub returns : goal.returns
 returns g c = λ out err.
     let m = c.in_ok-module.module in
     next (listed_read c.args.machine) (c.in_ok-module.ensures out err)
-    (answered (λ (x : Machine). x) (load_outcome Listed m.facts.name (step c.args.machine m)) _ c.load-after.result c.load-after.ensures)
+    (answered (λ (x : Machine). x) (load_outcome Listed m.facts.name (step c.args.machine m)) _
+    c.load-after.result c.load-after.ensures)

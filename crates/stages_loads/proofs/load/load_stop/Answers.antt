@@ -13,6 +13,7 @@ returns-in-Ok c =
     let fault = c.args.fault.now in record {
       memory = λ ran_out. let is = c.in-AlreadyLoaded.is in absurd (grind arith);
       refused =
-          subst (λ stop. Answers (λ (x : Machine). x) (load_outcome cause name (Err fault)) (Err stop)) (sym c.from.ensures)
+          subst (λ stop. Answers (λ (x : Machine). x) (load_outcome cause name (Err fault))
+          (Err stop)) (sym c.from.ensures)
           (refused_as cause name fault c.in-Ok.refusal c.in-Ok.ensures);
     }

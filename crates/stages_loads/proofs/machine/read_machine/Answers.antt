@@ -15,4 +15,6 @@ pub returns : goal.returns
 returns g c = λ out err.
     let kernel = c.in_ok-kernel.kernel in
     next (made c.args.region) (c.in_ok-kernel.ensures out err)
-    (answered (λ (x : Machine). x) (machine_outcome (table_of kernel) c.args.region (unplaced kernel.exports)) _ c.make_machine.result c.make_machine.ensures)
+    (answered (λ (x : Machine). x)
+    (machine_outcome (table_of kernel) c.args.region (unplaced kernel.exports)) _
+    c.make_machine.result c.make_machine.ensures)

@@ -11,10 +11,13 @@ use Rattle.stages_loads.proofs.machine.understood_map.Goals as goal
 
 pub returns-in-Ok-clause-answer : goal.returns-in-Ok-clause-answer
 returns-in-Ok-clause-answer c =
-    mapped c.args.file c.args.bytes.now c.in-Ok.map (c.in-Ok.ensures.ok ∙ ap (stated map_line) c.as_bytes.ensures)
+    mapped c.args.file c.args.bytes.now c.in-Ok.map
+    (c.in-Ok.ensures.ok ∙ ap (stated map_line) c.as_bytes.ensures)
     (ap (refused_line map_line) (sym c.as_bytes.ensures) ∙ c.in-Ok.ensures.passed)
 
 pub returns-in-Err-clause-answer : goal.returns-in-Err-clause-answer
 returns-in-Err-clause-answer c =
-    subst (λ bytes. Answers table_of_map (table_outcome c.args.file (exports_of_map bytes)) (Err c.stop_of_table.result)) c.as_bytes.ensures
-    (mapped_not c.args.file _ c.in-Err.fault c.stop_of_table.result c.in-Err.ensures.err c.stop_of_table.ensures)
+    subst (λ bytes. Answers table_of_map (table_outcome c.args.file (exports_of_map bytes))
+    (Err c.stop_of_table.result)) c.as_bytes.ensures
+    (mapped_not c.args.file _ c.in-Err.fault c.stop_of_table.result c.in-Err.ensures.err
+    c.stop_of_table.ensures)

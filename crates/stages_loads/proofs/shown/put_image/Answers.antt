@@ -9,7 +9,8 @@ use Rattle.stages_loads.proofs.shown.put_image.Goals as goal
 
 pub returns-in-None : goal.returns-in-None
 returns-in-None g c = λ out err.
-    along (λ images. puts_image images c.args.name.now c.args.image.now) _ _ (sym (ap option_copied c.in-None.is)) (gave (λ (x : ⊤). x) _ tt)
+    along (λ images. puts_image images c.args.name.now c.args.image.now) _ _
+    (sym (ap option_copied c.in-None.is)) (gave (λ (x : ⊤). x) _ tt)
 
 pub returns-in_err-path-in-Some : goal.returns-in_err-path-in-Some
 returns-in_err-path-in-Some g c = λ out err.
@@ -18,5 +19,7 @@ returns-in_err-path-in-Some g c = λ out err.
 
 pub returns-in_ok-path-in-Some : goal.returns-in_ok-path-in-Some
 returns-in_ok-path-in-Some g c = λ out err.
-    along (λ images. puts_image images c.args.name.now c.args.image.now) _ _ (sym (ap option_copied c.in-Some.is))
-    (along (λ path. puts path c.args.image.now) _ _ c.in_ok-path-in-Some.ensures (c.put.ensures out err))
+    along (λ images. puts_image images c.args.name.now c.args.image.now) _ _
+    (sym (ap option_copied c.in-Some.is))
+    (along (λ path. puts path c.args.image.now) _ _ c.in_ok-path-in-Some.ensures
+    (c.put.ensures out err))

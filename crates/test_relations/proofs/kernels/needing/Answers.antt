@@ -1,4 +1,5 @@
-use Rattle.std.proofs.Common.{◌≡◌, ◌++◌, ◌∷◌, [], List, ℕ, false, not, eqb, None, All, AllPairs, IsTrue, sym, ap, subst, ◌∙◌, rules}
+use Rattle.std.proofs.Common.{◌≡◌, ◌++◌, ◌∷◌, [], List, ℕ, false, not, eqb, None, All, AllPairs}
+use Rattle.std.proofs.Common.{IsTrue, sym, ap, subst, ◌∙◌, rules}
 use Rattle.std.proofs.lemmas.List.Elements.{All-nil, All-cons}
 use Rattle.std.specs.List.{list_any}
 use Rattle.km_names.specs.Ascii.{is_graphic}
@@ -19,7 +20,20 @@ returns c =
       path = subst word (sym c.in_ok-from_slice-2.ensures) (search rules);
       name = subst word (sym c.in_ok-from_slice-3.ensures) (search rules);
       exports = subst (All exported) (sym c.new.ensures) (All-nil exported);
-      needs = subst (All needed) (sym (c.in_ok-push.ensures.ok ∙ ap (λ l. l ++ record { name = c.in_ok-from_slice.field-0; symbol = 1; weak = false; crc = None } ∷ []) c.new-needs.ensures))
-          (All-cons needed _ [] (subst word (sym c.in_ok-from_slice.ensures) (search rules)) (All-nil needed));
-      colon = subst (λ (text : List ℕ). IsTrue (not (list_any (λ b. eqb b 58) text))) (sym c.in_ok-from_slice-2.ensures) (search rules);
+      needs
+          = subst (All needed)
+          (sym (c.in_ok-push.ensures.ok
+          ∙ ap (λ l. l
+          ++ record {
+            name = c.in_ok-from_slice.field-0;
+            symbol = 1;
+            weak = false;
+            crc = None;
+          }
+          ∷ []) c.new-needs.ensures))
+          (All-cons needed _ [] (subst word (sym c.in_ok-from_slice.ensures) (search rules))
+          (All-nil needed));
+      colon
+          = subst (λ (text : List ℕ). IsTrue (not (list_any (λ b. eqb b 58) text)))
+          (sym c.in_ok-from_slice-2.ensures) (search rules);
     }

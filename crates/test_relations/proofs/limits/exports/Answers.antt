@@ -6,4 +6,5 @@ use Rattle.test_relations.proofs.limits.exports.Goals as goal
 
 pub returns-clause-graphic : goal.returns-clause-graphic
 returns-clause-graphic c =
-    alone (λ (e : Export). IsTrue (is_graphic e.name)) _ _ _ c.new-exports.ensures c.in_ok-push.ensures.ok (graphic-as _ _ c.in_ok-name.ensures c.requires)
+    alone (λ (e : Export). IsTrue (is_graphic e.name)) _ _ _ c.new-exports.ensures
+    c.in_ok-push.ensures.ok (graphic-as _ _ c.in_ok-name.ensures c.requires)

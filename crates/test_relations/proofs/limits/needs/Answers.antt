@@ -7,4 +7,6 @@ use Rattle.test_relations.proofs.limits.needs.Goals as goal
 
 pub loop-number-preserved : goal.loop-number-preserved
 loop-number-preserved c =
-    pushed (λ (n : Need). IsTrue (is_graphic n.name)) _ _ _ c.loop-number.invariant c.in_ok-push.ensures.ok (graphic-as _ _ c.in_ok-name.ensures (omega (arith, c.requires, c.loop-number-test.true)))
+    pushed (λ (n : Need). IsTrue (is_graphic n.name)) _ _ _ c.loop-number.invariant
+    c.in_ok-push.ensures.ok
+    (graphic-as _ _ c.in_ok-name.ensures (omega (arith, c.requires, c.loop-number-test.true)))

@@ -9,8 +9,11 @@ use Rattle.provider_rel.specs.Seen.{IsRelation, closures_by}
 use Rattle.provider_rel.proofs.MakeSteps.{deps-long}
 use Rattle.test_relations.proofs.limits.related.Goals as goal
 
-as-long : {E : Type 0} (tree : List Facts) (kernel : SeenKernel) (n : ℕ) (made : Result Relation E) → length tree ≡ n → IfOk made (IsRelation (modules_of tree) kernel) → IfOk made (λ relation. length (closures_by relation) ≡ n)
-as-long tree kernel n (Ok r) long is = ap length is.closures ∙ deps-long (modules_of tree) kernel ∙ length-map tree module_of ∙ long
+as-long : {E : Type 0} (tree : List Facts) (kernel : SeenKernel) (n : ℕ) (made : Result Relation E)
+    → length tree ≡ n → IfOk made (IsRelation (modules_of tree) kernel)
+    → IfOk made (λ relation. length (closures_by relation) ≡ n)
+as-long tree kernel n (Ok r) long is =
+    ap length is.closures ∙ deps-long (modules_of tree) kernel ∙ length-map tree module_of ∙ long
 as-long tree kernel n (Err e) long is = is
 
 pub returns : goal.returns

@@ -5,4 +5,5 @@ use Rattle.test_surface.proofs.TreeSteps.{alone}
 use Rattle.test_surface.proofs.relation.one_file.Goals as goal
 
 pub returns : goal.returns
-returns g c = alone (λ (f : ConfFile). length f.bytes ≤ file_limit) _ _ c.only.ensures c.configuration.ensures
+returns g c =
+    alone (λ (f : ConfFile). length f.bytes ≤ file_limit) _ _ c.only.ensures c.configuration.ensures

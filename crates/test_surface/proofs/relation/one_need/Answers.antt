@@ -5,4 +5,5 @@ use Rattle.test_surface.proofs.TreeSteps.{alone}
 use Rattle.test_surface.proofs.relation.one_need.Goals as goal
 
 pub returns : goal.returns
-returns g c = alone (λ (n : Need). IsTrue (is_graphic n.name)) _ _ c.only.ensures c.word.ensures.graphic
+returns g c =
+    alone (λ (n : Need). IsTrue (is_graphic n.name)) _ _ c.only.ensures c.word.ensures.graphic

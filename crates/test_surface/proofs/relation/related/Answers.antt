@@ -10,11 +10,15 @@ use Rattle.provider_rel.proofs.MakeSteps.{deps-long}
 use Rattle.depmod_core.specs.Files.{IsRelationOf}
 use Rattle.test_surface.proofs.relation.related.Goals as goal
 
-as-long : {E : Type 0} (tree : List Facts) (kernel : SeenKernel) (n : ℕ) (made : Result Relation E) → length tree ≡ n → IfOk made (IsRelation (modules_of tree) kernel) → IfOk made (λ relation. length (closures_by relation) ≡ n)
-as-long tree kernel n (Ok r) long is = ap length is.closures ∙ deps-long (modules_of tree) kernel ∙ length-map tree module_of ∙ long
+as-long : {E : Type 0} (tree : List Facts) (kernel : SeenKernel) (n : ℕ) (made : Result Relation E)
+    → length tree ≡ n → IfOk made (IsRelation (modules_of tree) kernel)
+    → IfOk made (λ relation. length (closures_by relation) ≡ n)
+as-long tree kernel n (Ok r) long is =
+    ap length is.closures ∙ deps-long (modules_of tree) kernel ∙ length-map tree module_of ∙ long
 as-long tree kernel n (Err e) long is = is
 
-over : {E : Type 0} (tree : List Facts) (kernel : SeenKernel) (made : Result Relation E) → IfOk made (IsRelation (modules_of tree) kernel) → IfOk made (IsRelationOf tree)
+over : {E : Type 0} (tree : List Facts) (kernel : SeenKernel) (made : Result Relation E)
+    → IfOk made (IsRelation (modules_of tree) kernel) → IfOk made (IsRelationOf tree)
 over tree kernel (Ok r) is = (kernel, is)
 over tree kernel (Err e) is = is
 

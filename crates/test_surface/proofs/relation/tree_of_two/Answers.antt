@@ -5,7 +5,8 @@ use Rattle.test_surface.proofs.relation.tree_of_two.Goals as goal
 pub returns-clause-tree : goal.returns-clause-tree
 returns-clause-tree g c =
     two-modules _ _ _ c.facts-first.ensures.good c.facts-second.ensures.good
-    (λ same. c.expect_apart.ensures (sym c.facts-first.ensures.named ∙ same ∙ c.facts-second.ensures.named))
+    (λ same. c.expect_apart.ensures
+    (sym c.facts-first.ensures.named ∙ same ∙ c.facts-second.ensures.named))
     c.pair.ensures
 
 pub returns-clause-long : goal.returns-clause-long

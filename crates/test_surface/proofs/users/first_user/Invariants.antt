@@ -7,4 +7,5 @@ use Rattle.test_surface.proofs.users.first_user.Given as goal
 
 abbrev pub invariant-loop-k : goal.invariant-loop-k
 invariant-loop-k l =
-    first_user l.machine l.j ≡ find (λ k. binds l.machine k l.j) (range_with_len l.k (length l.machine.entries - l.k))
+    first_user l.machine l.j
+    ≡ find (λ k. binds l.machine k l.j) (range_with_len l.k (length l.machine.entries - l.k))

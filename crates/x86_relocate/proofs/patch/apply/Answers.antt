@@ -16,7 +16,9 @@ write_word-requires-clause-within c =
     let i = c.loop-patch.patch-index in
     let items = c.as_slice-patch-items.ensures in
     let inside : i < length c.args.patches.now = rw (← items) c.loop-patch-test.true in
-    let within : IsWithin (length c.args.image.now) (slice_index_or c.as_slice-patch-items.result.now i past) = rw items (c.requires.within i past inside) in
+    let within : IsWithin (length c.args.image.now)
+    (slice_index_or c.as_slice-patch-items.result.now i past)
+    = rw items (c.requires.within i past inside) in
     λ place h. rw (length_so_far c.loop-patch.invariant) (within place h)
 
 pub loop-patch-preserved : goal.loop-patch-preserved
@@ -24,8 +26,12 @@ loop-patch-preserved c =
     let i = c.loop-patch.patch-index in
     let items = c.as_slice-patch-items.ensures in
     let inside : i < length c.args.patches.now = rw (← items) c.loop-patch-test.true in
-    let fit : fits (slice_index_or c.args.patches.now i past) ≡ true = sym (rw items at c.write_word.ensures.outcome) ∙ c.if-is_err.ensures.negation in
-    so_far_more c.args.image.now c.loop-patch.image c.write_word.new.image c.args.patches.now i past c.loop-patch.invariant inside (c.requires.known i past inside) (c.requires.within i past inside) c.requires.apart fit (rw items at c.write_word.ensures.image)
+    let fit : fits (slice_index_or c.args.patches.now i past) ≡ true
+    = sym (rw items at c.write_word.ensures.outcome) ∙ c.if-is_err.ensures.negation in
+    so_far_more c.args.image.now c.loop-patch.image c.write_word.new.image c.args.patches.now i past
+    c.loop-patch.invariant inside (c.requires.known i past inside)
+    (c.requires.within i past inside) c.requires.apart fit
+    (rw items at c.write_word.ensures.image)
 
 pub returns-then-is_err-clause-len : goal.returns-then-is_err-clause-len
 returns-then-is_err-clause-len c = c.write_word.ensures.len ∙ length_so_far c.loop-patch.invariant

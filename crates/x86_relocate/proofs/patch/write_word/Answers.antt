@@ -9,6 +9,9 @@ returns-clause-more c =
     let patch = c.args.patch.now in
     λ start done apart before.
     let same : length c.args.image.now ≡ length start = ap length before ∙ length_by start done in
-    let within : IsWithin (length start) patch = subst (λ n. IsWithin n patch) same c.requires.within in
+    let within : IsWithin (length start) patch
+    = subst (λ n. IsWithin n patch) same c.requires.within in
     let fit : fits patch ≡ true = sym c.in_ok-put_word.ensures.outcome in
-    c.in_ok-put_word.ensures.image ∙ ap (λ i. with_bytes i patch.at (bytes_of (word_of patch))) before ∙ one_more start done patch c.requires.known within fit apart
+    c.in_ok-put_word.ensures.image
+    ∙ ap (λ i. with_bytes i patch.at (bytes_of (word_of patch))) before
+    ∙ one_more start done patch c.requires.known within fit apart

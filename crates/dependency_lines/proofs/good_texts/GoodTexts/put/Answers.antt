@@ -5,4 +5,5 @@ use Rattle.dependency_lines.proofs.good_texts.GoodTexts.put.Goals as goal
 
 pub returns-then-slot-len : goal.returns-then-slot-len
 returns-then-slot-len c = λ test old good.
-    All-set (λ (text : Bor (List ℕ)). 0 < length text.now → test text.now ≡ true) c.args.self.now.slots.items c.args.slot c.args.text (λ _. good) old
+    All-set (λ (text : Bor (List ℕ)). 0 < length text.now → test text.now ≡ true)
+    c.args.self.now.slots.items c.args.slot c.args.text (λ _. good) old

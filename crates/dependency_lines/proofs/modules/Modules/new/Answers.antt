@@ -16,13 +16,17 @@ returns-clause-modules c dep is =
 
 pub returns-clause-passed : goal.returns-clause-passed
 returns-clause-passed c dep is =
-    let has = ap (λ ms name. is_some (place_of ms name)) (returns-clause-modules c dep is) ∙ has-same dep in
+    let has
+    = ap (λ ms name. is_some (place_of ms name)) (returns-clause-modules c dep is)
+    ∙ has-same dep in
     let firsts = c.lines-kept.ensures.same ∙ is in
     sym (λ i. bad_among (has i) (firsts i)) ∙ c.in_ok-check_needs.ensures.passed
 
 pub returns-in_err-check_needs-clause-err : goal.returns-in_err-check_needs-clause-err
 returns-in_err-check_needs-clause-err c =
-    let p = err_from_is_err_and c.from_residual-in_err-check_needs.result c.from_residual-in_err-check_needs.ensures.1 in
+    let p
+    = err_from_is_err_and c.from_residual-in_err-check_needs.result
+    c.from_residual-in_err-check_needs.ensures.1 in
     rw (p.1, p.2)
     (right (λ e dep is.
     let firsts = c.lines-kept.ensures.same ∙ is in

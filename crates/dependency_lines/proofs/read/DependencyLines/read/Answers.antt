@@ -24,10 +24,17 @@ returns-then-not-begins_line-clause-err c =
     let text = c.in-Some.first.text.now in
     let name = c.key-then-not-begins_line.ensures in
     let next = rw c.in-Some.is at c.in_ok-first.ensures.next in
-    let begins = ap (λ k. begins_line k text) (name ∙ sym c.key.ensures) ∙ sym c.begins_line.ensures ∙ c.if-not-begins_line.true in
-    let whole = ap (λ k. lines ++ (k, (number, text)) ∷ left) name ∙ ap (λ ls. lines ++ ls) (sym next) ∙ c.loop-walk.invariant.parts in
-    let firsts = firsts-are dep (lines ++ (c.key-then-not-begins_line.result.now, (number, text)) ∷ left) whole in
-    right (λ e. ap (λ fs. option_map BadLine (bad_among (has_value dep) fs)) (sym firsts) ∙ e) (c.bad_line.ensures number text left begins)
+    let begins
+    = ap (λ k. begins_line k text) (name ∙ sym c.key.ensures) ∙ sym c.begins_line.ensures
+    ∙ c.if-not-begins_line.true in
+    let whole
+    = ap (λ k. lines ++ (k, (number, text)) ∷ left) name ∙ ap (λ ls. lines ++ ls) (sym next)
+    ∙ c.loop-walk.invariant.parts in
+    let firsts
+    = firsts-are dep (lines ++ (c.key-then-not-begins_line.result.now, (number, text)) ∷ left)
+    whole in
+    right (λ e. ap (λ fs. option_map BadLine (bad_among (has_value dep) fs)) (sym firsts) ∙ e)
+    (c.bad_line.ensures number text left begins)
 
 pub loop-walk-preserved : goal.loop-walk-preserved
 loop-walk-preserved c =
@@ -38,7 +45,9 @@ loop-walk-preserved c =
     let name = c.key-in-Some.ensures in
     let m : KeyValue = (c.key-in-Some.result.now, (number, text)) in
     let next = rw c.in-Some.is at c.in_ok-first.ensures.next in
-    let begins : begins_line c.key-in-Some.result.now text ≡ true = ap (λ k. begins_line k text) (name ∙ sym c.key.ensures) ∙ sym c.begins_line.ensures ∙ c.if-not-begins_line.false in
+    let begins : begins_line c.key-in-Some.result.now text ≡ true
+    = ap (λ k. begins_line k text) (name ∙ sym c.key.ensures) ∙ sym c.begins_line.ensures
+    ∙ c.if-not-begins_line.false in
     record {
       parts =
           ap (λ ls. ls ++ left) c.in_ok-push.ensures
@@ -48,7 +57,8 @@ loop-walk-preserved c =
           ∙ c.loop-walk.invariant.parts;
       begin =
           rw c.in_ok-push.ensures
-          (All-push (λ (m : KeyValue). begins_line m.0 m.1.1 ≡ true) lines m c.loop-walk.invariant.begin begins);
+          (All-push (λ (m : KeyValue). begins_line m.0 m.1.1 ≡ true) lines m
+          c.loop-walk.invariant.begin begins);
     }
 
 pub invariant_of-result : goal.invariant_of-result
@@ -56,8 +66,13 @@ invariant_of-result c =
     let dep = contents c.args.index.now.nodes in
     let lines = c.loop-walk.lines in
     let none = rw c.in_default.is at c.in_ok-first.ensures.next in
-    let firsts = firsts-are dep lines (sym (append-nil lines) ∙ ap (λ ls. lines ++ ls) (sym none) ∙ c.loop-walk.invariant.parts) in
+    let firsts
+    = firsts-are dep lines
+    (sym (append-nil lines) ∙ ap (λ ls. lines ++ ls) (sym none)
+    ∙ c.loop-walk.invariant.parts) in
     record {
-      rise = subst NamesRise (sym firsts) (sorted-rise (first_values dep) (sorted-firsts (entries dep) (map-sorted dep)));
+      rise
+          = subst NamesRise (sym firsts)
+          (sorted-rise (first_values dep) (sorted-firsts (entries dep) (map-sorted dep)));
       begin = c.loop-walk.invariant.begin;
     }

@@ -8,7 +8,13 @@ invariant_of-result c =
     let b = c.args.bytes in
     let file = ap (λ (v : FileSections). v.file) c.in_ok-sections.ensures in
     let list = ap (λ (v : FileSections). v.list) c.in_ok-sections.ensures in
-    rw (c.in_ok-symbols.ensures.symbols, c.in_ok-symbols.ensures.places, c.as_bytes.ensures, file, list) (record {
+    rw (
+      c.in_ok-symbols.ensures.symbols,
+      c.in_ok-symbols.ensures.places,
+      c.as_bytes.ensures,
+      file,
+      list,
+    ) (record {
       listed = refl;
       small = c.requires;
       few = length-symbols_of b c.requires;

@@ -18,6 +18,8 @@ returns c = λ places before holds.
       | else-start-self w ↦
           let was : c.args.self.now.holds ≡ true = rw w.self-is at holds in
           let low : c.args.self.now.end ≤ place_start p = omega arith in
-          let end : c.from.result * 4294967296 + p.offset + c.from-2.result ≡ place_end p = omega arith in
-          rw end (IsApart-push place_start place_end places p c.args.self.now.end (before was) low (omega arith))
+          let end : c.from.result * 4294967296 + p.offset + c.from-2.result ≡ place_end p
+          = omega arith in
+          rw end (IsApart-push place_start place_end places p c.args.self.now.end (before was) low
+          (omega arith))
     ]

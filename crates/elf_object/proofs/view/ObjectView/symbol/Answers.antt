@@ -11,6 +11,12 @@ pub returns-clause-inside : goal.returns-clause-inside
 returns-clause-inside c =
     let symbols = c.self.inside.symbols in
     let sections = c.self.inside.table.list in
-    let other : SymbolRef = record { name = record { ref_ptr = (0, 0); now = [] }; binding = 0; section = 0; value = 0 } in
-    let inside = All-get_or (IsSymbolIn sections) (map owned_symbol symbols) c.args.i (owned_symbol other) (rw (← c.self.view_is) at c.requires) c.self.invariant.loadable.symbols in
-    rw (← c.self.view_is, c.as_slice.ensures) (subst (λ (s : Symbol). IsSymbolIn sections s) (get_or-map owned_symbol symbols c.args.i other) inside)
+    let other : SymbolRef
+    = record
+    { name = record { ref_ptr = (0, 0); now = [] }; binding = 0; section = 0; value = 0 } in
+    let inside
+    = All-get_or (IsSymbolIn sections) (map owned_symbol symbols) c.args.i (owned_symbol other)
+    (rw (← c.self.view_is) at c.requires) c.self.invariant.loadable.symbols in
+    rw (← c.self.view_is, c.as_slice.ensures)
+    (subst (λ (s : Symbol). IsSymbolIn sections s)
+    (get_or-map owned_symbol symbols c.args.i other) inside)

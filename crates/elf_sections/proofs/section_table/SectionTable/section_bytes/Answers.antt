@@ -6,7 +6,9 @@ use Rattle.elf_sections.proofs.section_table.SectionTable.section_bytes.Goals as
 
 pub overflow_cast-i : goal.overflow_cast-i
 overflow_cast-i c =
-    let count = length-read c.self.inside.bytes.now (map owned_section c.self.inside.sections) c.self.invariant in
+    let count
+    = length-read c.self.inside.bytes.now (map owned_section c.self.inside.sections)
+    c.self.invariant in
     let small = c.self.invariant.table.count in
     let same = ap (λ (v : FileSections). length v.list) c.self.view_is in
     let few : c.args.i < 65280 = omega arith in
@@ -14,13 +16,17 @@ overflow_cast-i c =
 
 pub contents-requires-clause-index : goal.contents-requires-clause-index
 contents-requires-clause-index c =
-    let count = length-read c.self.inside.bytes.now (map owned_section c.self.inside.sections) c.self.invariant in
+    let count
+    = length-read c.self.inside.bytes.now (map owned_section c.self.inside.sections)
+    c.self.invariant in
     let same = ap (λ (v : FileSections). length v.list) c.self.view_is in
     omega arith
 
 pub returns-clause-bytes : goal.returns-clause-bytes
 returns-clause-bytes c =
-    let count = length-read c.self.inside.bytes.now (map owned_section c.self.inside.sections) c.self.invariant in
+    let count
+    = length-read c.self.inside.bytes.now (map owned_section c.self.inside.sections)
+    c.self.invariant in
     let same = ap (λ (v : FileSections). length v.list) c.self.view_is in
     let is = c.contents.ensures in
     rw (← c.self.view_is, c.self.invariant.list_is)

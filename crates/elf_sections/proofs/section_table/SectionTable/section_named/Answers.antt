@@ -6,7 +6,8 @@ use Rattle.elf_sections.proofs.section_table.SectionTable.section_named.Goals as
 
 pub returns-then-eq-clause-first : goal.returns-then-eq-clause-first
 returns-then-eq-clause-first c =
-    sym (position-at (λ s. bytes_eq s.name c.args.name.now) c.args.self.now.list c.loop-i.i (owned_section c.section.result) c.section.ensures.section
+    sym (position-at (λ s. bytes_eq s.name c.args.name.now) c.args.self.now.list c.loop-i.i
+    (owned_section c.section.result) c.section.ensures.section
     (λ k s less is. c.loop-i.invariant k s less is)
     (sym c.if-eq.ensures))
 

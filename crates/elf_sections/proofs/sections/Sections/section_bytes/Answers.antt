@@ -29,7 +29,8 @@ returns-clause-bytes c =
 
 pub returns-clause-header : goal.returns-clause-header
 returns-clause-header c =
-    rw c.as_bytes.ensures at c.contents.ensures ∙ ap (λ (v : FileSections). contents v.file c.args.i) c.self.view_is
+    rw c.as_bytes.ensures at c.contents.ensures
+    ∙ ap (λ (v : FileSections). contents v.file c.args.i) c.self.view_is
 
 pub returns-clause-short : goal.returns-clause-short
 returns-clause-short c =

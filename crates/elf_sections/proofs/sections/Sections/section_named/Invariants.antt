@@ -5,4 +5,6 @@ use Rattle.elf_sections.specs.declared.section.Section.{Section}
 use Rattle.elf_sections.proofs.sections.Sections.section_named.Given as goal
 
 abbrev pub invariant-loop-i : goal.invariant-loop-i
-invariant-loop-i l = (k : ℕ) (s : Section) → k < l.i → slice_get l.self.list k ≡ Some s → bytes_eq s.name l.name ≡ false
+invariant-loop-i l =
+    (k : ℕ) (s : Section) → k < l.i → slice_get l.self.list k ≡ Some s
+    → bytes_eq s.name l.name ≡ false

@@ -1,4 +1,5 @@
-use Rattle.std.proofs.Common.{◌≡◌, ◌≢◌, sym, subst, ◌∙◌, ⊎_elim, ◌+◌, length, drop, slice_index, arith}
+use Rattle.std.proofs.Common.{◌≡◌, ◌≢◌, sym, subst, ◌∙◌, ⊎_elim, ◌+◌, length, drop, slice_index}
+use Rattle.std.proofs.Common.{arith}
 use Rattle.std.proofs.lemmas.Bool.{cases_eq}
 use Rattle.std.proofs.lemmas.List.{take_at}
 use Rattle.glob_pattern.specs.Pattern.{closing}
@@ -14,7 +15,8 @@ returns-clause-ahead c text t h =
     let new = c.add_item.new.listed in
     let two : at + 1 + 1 ≡ at + 2 = omega arith in
     let three : at + 1 + 2 ≡ at + 3 = omega arith in
-    let count : length new ≡ old.third.len = omega (arith, c.add_item.auto.listed, c.deref_mut.ensures.len) in
+    let count : length new ≡ old.third.len
+    = omega (arith, c.add_item.auto.listed, c.deref_mut.ensures.len) in
     record {
       low = omega (arith, h.low);
       high = h.high;
@@ -28,12 +30,22 @@ returns-clause-ahead c text t h =
           record {
             bracket = s.bracket;
             after = s.after;
-            first = subst (λ v. AreListed file text at close v.items) (sym (c.swap-2.ensures.x_after ∙ c.swap.ensures.x_after))
+            first
+                = subst (λ v. AreListed file text at close v.items)
+                (sym (c.swap-2.ensures.x_after ∙ c.swap.ensures.x_after))
                 (rw (take_at new (drop (length new) old.third.items) old.third.len count)
                 (c.add_item.ensures text t.same
                 (subst (AreListed file text (at + 1) close) (sym c.deref.ensures.value) s.first)
-                (λ le. subst (AreListed file text (at + 3) close) (sym c.deref_mut.ensures.value) (subst (λ n. AreListed file text n close old.third.items) three (s.third (omega (arith, le)))))));
-            second = λ le. subst (λ v. AreListed file text (at + 1) close v.items) (sym c.swap-2.ensures.y_after) s.first;
-            third = λ le. subst (λ v. AreListed file text (at + 2) close v.items) (sym c.swap.ensures.y_after) (subst (λ n. AreListed file text n close old.second.items) two (s.second (omega (arith, le))));
+                (λ le. subst (AreListed file text (at + 3) close) (sym c.deref_mut.ensures.value)
+                (subst (λ n. AreListed file text n close old.third.items) three
+                (s.third (omega (arith, le)))))));
+            second
+                = λ le. subst (λ v. AreListed file text (at + 1) close v.items)
+                (sym c.swap-2.ensures.y_after) s.first;
+            third
+                = λ le. subst (λ v. AreListed file text (at + 2) close v.items)
+                (sym c.swap.ensures.y_after)
+                (subst (λ n. AreListed file text n close old.second.items) two
+                (s.second (omega (arith, le))));
           };
     }

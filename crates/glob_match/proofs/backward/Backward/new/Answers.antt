@@ -9,12 +9,16 @@ returns-clause-begun c file text size =
     let to = c.args.to in
     let ends = c.in_ok-ends.ends in
     let new = c.set_only.new.words in
-    let count : length new ≡ ends.len = omega (arith, c.set_only.auto.words, c.deref_mut.ensures.len) in
+    let count : length new ≡ ends.len
+    = omega (arith, c.set_only.auto.words, c.deref_mut.ensures.len) in
     let close = c.in_ok-new.ensures.close in
     record {
-      ends = written (is_end (part file to to) text) new (drop (length new) ends.items) ends.len count
+      ends
+          = written (is_end (part file to to) text) new (drop (length new) ends.items) ends.len
+          count
           (same_bits new (λ n. n == c.args.size) (is_end (part file to to) text)
-          (λ n. ap (λ m. n == m) (sym size) ∙ sym (ap (λ p. is_end p text n) (part_none file to) ∙ empty_end text n))
+          (λ n. ap (λ m. n == m) (sym size)
+          ∙ sym (ap (λ p. is_end p text n) (part_none file to) ∙ empty_end text n))
           c.set_only.ensures);
       ahead = record {
         low = omega (arith, close);

@@ -6,7 +6,10 @@ use Rattle.glob_match.proofs.progress.Progress.is_match.Goals as goal
 pub returns-in-Outside : goal.returns-in-Outside
 returns-in-Outside c text pattern over s =
     let p = c.args.self.now in
-    let d = outside_decides text pattern p.state.first p.state.reached.items p.state.listed.items c.has.result (rw (c.in-Outside.is) at s) (λ test h. c.has.ensures test h ∙ ap test over.size_is) in
+    let d
+    = outside_decides text pattern p.state.first p.state.reached.items p.state.listed.items
+    c.has.result (rw (c.in-Outside.is) at s)
+    (λ test h. c.has.ensures test h ∙ ap test over.size_is) in
     (d.0, d.1)
 
 pub returns-in-Opened : goal.returns-in-Opened
@@ -14,7 +17,9 @@ returns-in-Opened c text pattern over s =
     let p = c.args.self.now in (
       λ e. absurd (false≢true e),
       λ m. absurd (elim c.in-Opened.is [
-        | inl e ↦ opened_never text pattern p.state.first p.state.reached.items p.state.listed.items (rw e at s) m
-        | inr h ↦ inside_never text pattern p.state.first p.state.reached.items p.state.listed.items h.0 h.1 (rw (h.2) at s) m
+        | inl e ↦ opened_never text pattern p.state.first p.state.reached.items p.state.listed.items
+            (rw e at s) m
+        | inr h ↦ inside_never text pattern p.state.first p.state.reached.items p.state.listed.items
+            h.0 h.1 (rw (h.2) at s) m
       ]),
     )

@@ -9,7 +9,8 @@ returns-in_ok-words-in-Outside c file text pattern are over s =
     let p = c.args.self.now in
     let more = part file c.args.at c.args.to in
     let known = c.in_ok-words-in-Outside.ensures in
-    matches_with text pattern more p.state.first p.state.reached.items p.state.listed.items c.meet.result (rw (c.in-Outside.is) at s)
+    matches_with text pattern more p.state.first p.state.reached.items p.state.listed.items
+    c.meet.result (rw (c.in-Outside.is) at s)
     (λ test h.
     c.meet.ensures test (is_end more text)
     (subst (λ ws. HasPlaces p.state.first ws test) (sym c.deref.ensures.value) h)

@@ -1,4 +1,5 @@
-use Rattle.std.proofs.Common.{sym, ap, subst, ◌∙◌, ◌++◌, ◌&&◌, ◌+◌, ◌-◌, ◌≤◌, length, take, drop, nat_le, slice_index, arith}
+use Rattle.std.proofs.Common.{sym, ap, subst, ◌∙◌, ◌++◌, ◌&&◌, ◌+◌, ◌-◌, ◌≤◌, length, take, drop}
+use Rattle.std.proofs.Common.{nat_le, slice_index, arith}
 use Rattle.glob_match.specs.Words.{HasPlaces, any_up_to}
 use Rattle.glob_match.specs.Progress.{HasRead, Stands}
 use Rattle.glob_match.specs.declared.place.Pending.TheVariants.{Low}
@@ -19,11 +20,14 @@ returns-clause-read c text pattern over s =
     let order = run.order in
     let within : end ≤ length b = omega (arith, c.end.ensures.high, c.requires.within) in
     rw (c.in-Outside.is)
-    (stars_read text pattern old.first old.reached.items old.listed.items (rw (c.in-Outside.is) at s) new.first new.reached.items new.listed.items
+    (stars_read text pattern old.first old.reached.items old.listed.items
+    (rw (c.in-Outside.is) at s) new.first new.reached.items new.listed.items
     (take (end - from) (drop from b))
     (omega (arith, length-run b from end within first run, order))
     (run_stars b from end within first run)
-    (λ test h. subst (λ z. HasPlaces new.first new.reached.items (λ n. nat_le n z && any_up_to test n)) over.size_is (c.in_ok-fill.ensures.places test h)))
+    (λ test h. subst
+    (λ z. HasPlaces new.first new.reached.items (λ n. nat_le n z && any_up_to test n))
+    over.size_is (c.in_ok-fill.ensures.places test h)))
 
 pub returns-2-clause-read : goal.returns-2-clause-read
 returns-2-clause-read c text pattern over s =
@@ -38,14 +42,22 @@ returns-2-clause-read c text pattern over s =
     let run = take (i.end + 1 - from) (drop from b) in
     let within = c.requires.within in
     moved_state text _ _ old new c.in_ok-list_set.ensures.same new.listed.items
-    (run_read text pattern old.first old.reached.items old.listed.items c.in-Some.negated (Low low) (subst (λ place. Stands text pattern place old.first old.reached.items old.listed.items) c.in-Some.ensures s) run (Low (slice_index b i.end)) new.listed.items
+    (run_read text pattern old.first old.reached.items old.listed.items c.in-Some.negated (Low low)
+    (subst (λ place. Stands text pattern place old.first old.reached.items old.listed.items)
+    c.in-Some.ensures s) run (Low (slice_index b i.end)) new.listed.items
     (stays_open b from c.args.to low i within on)
     (λ items o.
-    run_decided text c.deref.result.now (λ n. ap (λ bs. slice_index bs n) c.deref.ensures.value ∙ over.same n) c.in-Some.negated old.first items old.listed.items low (slice_index b i.end) run on.items.test new.listed.items
+    run_decided text c.deref.result.now
+    (λ n. ap (λ bs. slice_index bs n) c.deref.ensures.value ∙ over.same n) c.in-Some.negated
+    old.first items old.listed.items low (slice_index b i.end) run on.items.test
+    new.listed.items
     (go_on b from c.args.to low i within on)
     (λ test h. c.in_ok-list_set.ensures.listed test on.items.test h on.items.bits)
     o))
 
 pub returns-3-clause-read : goal.returns-3-clause-read
 returns-3-clause-read c text pattern over s =
-    subst (λ bs. HasRead c.push.new.self text (pattern ++ bs)) (sym (one_byte c.args.file.now c.args.from (omega (arith, c.requires.order, c.requires.within)))) (c.in_ok-push.ensures.read text pattern over s)
+    subst (λ bs. HasRead c.push.new.self text (pattern ++ bs))
+    (sym (one_byte c.args.file.now c.args.from
+    (omega (arith, c.requires.order, c.requires.within))))
+    (c.in_ok-push.ensures.read text pattern over s)

@@ -6,4 +6,5 @@ use Rattle.image_layout.proofs.layout.Layout.new.Given as goal
 
 abbrev pub invariant-loop-i : goal.invariant-loop-i
 invariant-loop-i l =
-    AreEnds l.object.sections (take l.i l.object.sections) l.ends × (l.offsets.items ≡ map (offset l.object.sections) (range_with_len 0 l.i))
+    AreEnds l.object.sections (take l.i l.object.sections) l.ends
+    × (l.offsets.items ≡ map (offset l.object.sections) (range_with_len 0 l.i))

@@ -8,4 +8,5 @@ first_place-requires-clause-fit c =
     let same = c.as_bytes.ensures ∙ c.self.view_is in
     let accepted = subst (λ b. index_fault b ≡ None) c.self.view_is c.self.invariant.0 in
     let link = c.args.node.now.link in
-    subst (λ b. values_fit b link ≡ true) (sym same) (node_sound c.args.self.now accepted link c.requires.node).values
+    subst (λ b. values_fit b link ≡ true) (sym same)
+    (node_sound c.args.self.now accepted link c.requires.node).values

@@ -12,10 +12,12 @@ be_u32_at-requires c =
 
 pub returns-clause-root : goal.returns-clause-root
 unfolding root
-returns-clause-root c = c.be_u32_at.ensures ∙ ap (λ b. be b 8 4) (c.as_bytes.ensures ∙ c.self.view_is)
+returns-clause-root c =
+    c.be_u32_at.ensures ∙ ap (λ b. be b 8 4) (c.as_bytes.ensures ∙ c.self.view_is)
 
 pub returns-clause-node : goal.returns-clause-node
 unfolding root
 returns-clause-node c =
     let it : IsNode c.args.self.now (root c.args.self.now) = top in
-    subst (IsNode c.args.self.now) (sym (c.be_u32_at.ensures ∙ ap (λ b. be b 8 4) (c.as_bytes.ensures ∙ c.self.view_is))) it
+    subst (IsNode c.args.self.now)
+    (sym (c.be_u32_at.ensures ∙ ap (λ b. be b 8 4) (c.as_bytes.ensures ∙ c.self.view_is))) it

@@ -6,4 +6,5 @@ use Rattle.index_read.proofs.index.Index.adopt.Goals as goal
 
 pub returns-clause-held : goal.returns-clause-held
 returns-clause-held c =
-    subst (λ b. Holds b (contents b)) (sym c.in_ok-nodes.ensures.bytes) (held c.args.bytes c.in_ok-nodes.ensures.accepted)
+    subst (λ b. Holds b (contents b)) (sym c.in_ok-nodes.ensures.bytes)
+    (held c.args.bytes c.in_ok-nodes.ensures.accepted)

@@ -32,7 +32,9 @@ returns-in_err-push_node-clause-cost g c =
 pub returns-in_err-next-clause-cost : goal.returns-in_err-next-clause-cost
 returns-in_err-next-clause-cost g c =
     let b = c.args.self.now.nodes in
-    let w = subst (λ o. Listing b c.loop-next.walk o (shown_pairs c.loop-next.found.items) c.args.steps.now c.loop-next.steps) c.in-Some.is c.loop-next.invariant in
+    let w
+    = subst (λ o. Listing b c.loop-next.walk o (shown_pairs c.loop-next.found.items)
+    c.args.steps.now c.loop-next.steps) c.in-Some.is c.loop-next.invariant in
     let all = count_all c.args.self.now.nodes w.accepted in
     let same = ap length (ap (items_left b []) c.in_ok-push_node.ensures.levels) in
     omega (arith, all, w.cost, c.next.ensures.cost, same)
@@ -40,7 +42,9 @@ returns-in_err-next-clause-cost g c =
 pub loop-next-preserved : goal.loop-next-preserved
 loop-next-preserved g c =
     let b = c.args.self.now.nodes in
-    let w = subst (λ o. Listing b c.loop-next.walk o (shown_pairs c.loop-next.found.items) c.args.steps.now c.loop-next.steps) c.in-Some.is c.loop-next.invariant in
+    let w
+    = subst (λ o. Listing b c.loop-next.walk o (shown_pairs c.loop-next.found.items)
+    c.args.steps.now c.loop-next.steps) c.in-Some.is c.loop-next.invariant in
     let old = c.push_node.new.walk in
     let new = c.next.new.self in
     let n = c.in-Some.node in
@@ -55,15 +59,21 @@ loop-next-preserved g c =
       onward =
           λ ps more.
           subst (Chosen b Every (all_items b))
-          (sym (append_assoc (shown_pairs c.loop-next.found.items) (pairs_of b item) ps) ∙ ap (λ qs. qs ++ ps) (sym c.in_ok-push_node.ensures.pairs))
-          (w.onward (pairs_of b item ++ ps) (taken item tt (subst (λ is. Chosen b Every is ps) (sym (still_to_do b old new o on) ∙ same) more)));
+          (sym (append_assoc (shown_pairs c.loop-next.found.items) (pairs_of b item) ps)
+          ∙ ap (λ qs. qs ++ ps) (sym c.in_ok-push_node.ensures.pairs))
+          (w.onward (pairs_of b item ++ ps)
+          (taken item tt
+          (subst (λ is. Chosen b Every is ps) (sym (still_to_do b old new o on) ∙ same)
+          more)));
       cost = omega (arith, w.cost, c.in_ok-next.ensures.cost, few, ap length same);
     }
 
 pub returns-clause-listing : goal.returns-clause-listing
 returns-clause-listing g c =
     let b = c.args.self.now.nodes in
-    let w = subst (λ o. Listing b c.loop-next.walk o (shown_pairs c.loop-next.found.items) c.args.steps.now c.loop-next.steps) c.in_default.is c.loop-next.invariant in
+    let w
+    = subst (λ o. Listing b c.loop-next.walk o (shown_pairs c.loop-next.found.items)
+    c.args.steps.now c.loop-next.steps) c.in_default.is c.loop-next.invariant in
     let found = shown_pairs c.loop-next.found.items in
     let chosen = subst (Chosen b Every (all_items b)) (append-nil found) (w.onward [] none) in
     subst (λ fs. IsListing (at b (root b)) (shown_pairs fs)) (sym c.from_vec.ensures)
@@ -72,7 +82,9 @@ returns-clause-listing g c =
 pub returns-clause-map : goal.returns-clause-map
 returns-clause-map g c =
     let b = c.args.self.now.nodes in
-    let w = subst (λ o. Listing b c.loop-next.walk o (shown_pairs c.loop-next.found.items) c.args.steps.now c.loop-next.steps) c.in_default.is c.loop-next.invariant in
+    let w
+    = subst (λ o. Listing b c.loop-next.walk o (shown_pairs c.loop-next.found.items)
+    c.args.steps.now c.loop-next.steps) c.in_default.is c.loop-next.invariant in
     let found = shown_pairs c.loop-next.found.items in
     let chosen = subst (Chosen b Every (all_items b)) (append-nil found) (w.onward [] none) in
     let whole = listing b w.accepted found chosen in
@@ -83,7 +95,9 @@ returns-clause-map g c =
 pub returns-clause-held : goal.returns-clause-held
 returns-clause-held g c =
     let b = c.args.self.now.nodes in
-    let w = subst (λ o. Listing b c.loop-next.walk o (shown_pairs c.loop-next.found.items) c.args.steps.now c.loop-next.steps) c.in_default.is c.loop-next.invariant in
+    let w
+    = subst (λ o. Listing b c.loop-next.walk o (shown_pairs c.loop-next.found.items)
+    c.args.steps.now c.loop-next.steps) c.in_default.is c.loop-next.invariant in
     let found = shown_pairs c.loop-next.found.items in
     let chosen = subst (Chosen b Every (all_items b)) (append-nil found) (w.onward [] none) in
     let whole = listing b w.accepted found chosen in

@@ -10,18 +10,23 @@ use Rattle.index_read.proofs.index.Index.find.Goals as goal
 pub returns-in_default-clause-values : goal.returns-in_default-clause-values
 unfolding at
 returns-in_default-clause-values g c =
-    ap found_values c.new.ensures ∙ ap (values_at c.args.self.now.nodes) c.in_default.ensures.reached
+    ap found_values c.new.ensures
+    ∙ ap (values_at c.args.self.now.nodes) c.in_default.ensures.reached
 
 pub returns-in_default-clause-map : goal.returns-in_default-clause-map
 unfolding at
 returns-in_default-clause-map g c =
-    λ m h. ap found_values c.new.ensures ∙ ap (values_at c.args.self.now.nodes) c.in_default.ensures.reached ∙ h.values c.args.key.now
+    λ m h. ap found_values c.new.ensures
+    ∙ ap (values_at c.args.self.now.nodes) c.in_default.ensures.reached
+    ∙ h.values c.args.key.now
 
 pub returns-in_default-clause-few : goal.returns-in_default-clause-few
-returns-in_default-clause-few g c = omega (arith, c.reach.ensures.cost, visits-few c.args.self.now.nodes c.args.key.now)
+returns-in_default-clause-few g c =
+    omega (arith, c.reach.ensures.cost, visits-few c.args.self.now.nodes c.args.key.now)
 
 pub returns-in_err-push_values-clause-few : goal.returns-in_err-push_values-clause-few
-returns-in_err-push_values-clause-few g c = omega (arith, c.reach.ensures.cost, visits-few c.args.self.now.nodes c.args.key.now)
+returns-in_err-push_values-clause-few g c =
+    omega (arith, c.reach.ensures.cost, visits-few c.args.self.now.nodes c.args.key.now)
 
 pub returns-clause-values : goal.returns-clause-values
 unfolding at
@@ -44,7 +49,8 @@ returns-clause-map g c =
     ∙ h.values c.args.key.now
 
 pub returns-clause-few : goal.returns-clause-few
-returns-clause-few g c = omega (arith, c.reach.ensures.cost, visits-few c.args.self.now.nodes c.args.key.now)
+returns-clause-few g c =
+    omega (arith, c.reach.ensures.cost, visits-few c.args.self.now.nodes c.args.key.now)
 
 pub returns-in_default-clause-held : goal.returns-in_default-clause-held
 returns-in_default-clause-held g c = held c.args.self.now.nodes c.reach.ensures.accepted

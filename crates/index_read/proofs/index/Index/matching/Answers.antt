@@ -1,4 +1,5 @@
-use Rattle.std.proofs.Common.{refl, sym, ap, subst, ◌∙◌, [], ◌∷◌, ◌+◌, ◌≤◌, ◌<◌, ℕ, List, length, Option, Some, None, inl, arith, length-append}
+use Rattle.std.proofs.Common.{refl, sym, ap, subst, ◌∙◌, [], ◌∷◌, ◌+◌, ◌≤◌, ◌<◌, ℕ, List, length}
+use Rattle.std.proofs.Common.{Option, Some, None, inl, arith, length-append}
 use Rattle.std.proofs.lemmas.Bool.{false≢true}
 use Rattle.index_format.specs.Map.{Value}
 use Rattle.index_nodes.specs.Fields.{link_of}
@@ -14,38 +15,67 @@ use Rattle.index_read.proofs.ListingLemmas.{selection}
 use Rattle.index_read.proofs.MatchLemmas.{Onward, on_match, on_other, on_skipped, none_left}
 use Rattle.index_read.proofs.SearchLemmas.{count_is}
 use Rattle.index_read.proofs.index.Index.matching.Invariants.{Matching, IsGoing, owed, to_do}
-use Rattle.index_read.proofs.index.Index.matching.Goals.{then-reached+in_ok-push_values, else-reached}
+use Rattle.index_read.proofs.index.Index.matching.Goals.{then-reached+in_ok-push_values}
+use Rattle.index_read.proofs.index.Index.matching.Goals.{else-reached}
 use Rattle.index_read.proofs.index.Index.matching.Goals as goal
 
 -- What is still to come after a step, with the values so far.
-record Goes (b text : List ℕ) (s : Search) (next : Option FoundNode) (found : List Value) : Type 0 where
-  is : List Item
-  going : IsGoing b text s next is
-  onward : Onward b text is found
+record Goes (b text : List ℕ) (s : Search) (next : Option FoundNode) (found : List Value) : Type 0
+  where
+    is : List Item
+    going : IsGoing b text s next is
+    onward : Onward b text is found
 
-goes : (b text : List ℕ) (is : List Item) (s : Search) (next : Option FoundNode) (found : List Value) → Finds b text is s next → Onward b text is found → Goes b text s next found
+goes : (b text : List ℕ) (is : List Item) (s : Search) (next : Option FoundNode)
+    (found : List Value)
+    → Finds b text is s next → Onward b text is found → Goes b text s next found
 goes b text is s None found h on = record { is = is; going = h; onward = on }
 goes b text is s (Some f) found h on = record {
   is = (h.key, link_of f.node) ∷ h.left;
-  going = record { key = h.key; left = h.left; parts = refl; node = h.node; decides = h.decides; searching = h.searching };
-  onward = on_skipped b text h.skipped ((h.key, link_of f.node) ∷ h.left) found h.none (subst (λ xs. Onward b text xs found) h.parts on);
+  going
+      = record {
+        key = h.key;
+        left = h.left;
+        parts = refl;
+        node = h.node;
+        decides = h.decides;
+        searching = h.searching;
+      };
+  onward
+      = on_skipped b text h.skipped ((h.key, link_of f.node) ∷ h.left) found h.none
+      (subst (λ xs. Onward b text xs found) h.parts on);
 }
 
-owed_first : (b text : List ℕ) (is : List Item) (s : Search) (next : Option FoundNode) → Finds b text is s next → 1 ≤ length is → owed b s next + 1 ≤ length is
+owed_first : (b text : List ℕ) (is : List Item) (s : Search) (next : Option FoundNode)
+    → Finds b text is s next → 1 ≤ length is → owed b s next + 1 ≤ length is
 owed_first b text is s None h one = omega (arith, one)
 owed_first b text is s (Some f) h one =
     let all = ap length h.parts in
-    omega (arith, all, length-append h.skipped ((h.key, link_of f.node) ∷ h.left), count_is b text s.levels.items s.saved.items h.left h.searching.waits)
+    omega (
+      arith,
+      all,
+      length-append h.skipped ((h.key, link_of f.node) ∷ h.left),
+      count_is b text s.levels.items s.saved.items h.left h.searching.waits,
+    )
 
-owed_next : (b : List ℕ) (s : Search) (next : Option FoundNode) → owed b s next ≤ count_left b s.levels.items
+owed_next : (b : List ℕ) (s : Search) (next : Option FoundNode)
+    → owed b s next ≤ count_left b s.levels.items
 owed_next b s None = omega arith
 owed_next b s (Some f) = omega arith
 
-fewer : (b text : List ℕ) (is : List Item) (old new : Search) (next : Option FoundNode) → IsSearching b text old is → Finds b text is new next → to_do b new next < count_left b old.levels.items + 1
+fewer : (b text : List ℕ) (is : List Item) (old new : Search) (next : Option FoundNode)
+    → IsSearching b text old is → Finds b text is new next
+    → to_do b new next < count_left b old.levels.items + 1
 fewer b text is old new None before h = omega arith
 fewer b text is old new (Some f) before h =
     let all = ap length h.parts in
-    omega (arith, all, length-append h.skipped ((h.key, link_of f.node) ∷ h.left), count_is b text new.levels.items new.saved.items h.left h.searching.waits, count_is b text old.levels.items old.saved.items is before.waits)
+    omega (
+      arith,
+      all,
+      length-append h.skipped ((h.key, link_of f.node) ∷ h.left),
+      count_is b text new.levels.items new.saved.items h.left h.searching.waits,
+      count_is b text old.levels.items old.saved.items is before.waits,
+    )
 
 pub returns-in_err-search-clause-cost : goal.returns-in_err-search-clause-cost
 returns-in_err-search-clause-cost g c =
@@ -58,13 +88,23 @@ loop-next-init g c =
     let text = c.args.text.now in
     let s = c.in_ok-search.search in
     let finds = c.in_ok-search.ensures.finds in
-    let w : Goes b text s c.in_ok-search.first [] = goes b text (all_items b) s c.in_ok-search.first [] finds (λ ps c. record { pairs = ps; chosen = c; found_is = refl }) in
+    let w : Goes b text s c.in_ok-search.first []
+    = goes b text (all_items b) s c.in_ok-search.first [] finds
+    (λ ps c. record { pairs = ps; chosen = c; found_is = refl }) in
     record {
       accepted = c.start.ensures.accepted;
       is = w.is;
       going = w.going;
-      onward = subst (λ fs. Onward b text w.is (found_values fs)) (sym c.new-found.ensures.items) w.onward;
-      cost = omega (arith, c.start.ensures.cost, root_counted b, owed_first b text (all_items b) s c.in_ok-search.first finds (root_counted b));
+      onward
+          = subst (λ fs. Onward b text w.is (found_values fs)) (sym c.new-found.ensures.items)
+          w.onward;
+      cost
+          = omega (
+            arith,
+            c.start.ensures.cost,
+            root_counted b,
+            owed_first b text (all_items b) s c.in_ok-search.first finds (root_counted b),
+          );
     }
 
 pub returns-in_err-push_values-clause-cost : goal.returns-in_err-push_values-clause-cost
@@ -75,7 +115,10 @@ returns-in_err-push_values-clause-cost g c =
 pub returns-in_err-next-clause-cost : goal.returns-in_err-next-clause-cost
 returns-in_err-next-clause-cost g c =
     let b = c.args.self.now.nodes in
-    let w = subst (λ o. Matching b c.args.text.now c.loop-next.search o (found_values c.loop-next.found.items) c.args.steps.now c.loop-next.steps) c.in-Some.is c.loop-next.invariant in
+    let w
+    = subst (λ o. Matching b c.args.text.now c.loop-next.search o
+    (found_values c.loop-next.found.items) c.args.steps.now c.loop-next.steps) c.in-Some.is
+    c.loop-next.invariant in
     omega (arith, count_all b w.accepted, w.cost, c.next.ensures.cost)
 
 pub loop-next-preserved : goal.loop-next-preserved
@@ -84,23 +127,39 @@ loop-next-preserved g c =
     let text = c.args.text.now in
     let s = c.loop-next.search in
     let found = found_values c.loop-next.found.items in
-    let w = subst (λ o. Matching b text s o found c.args.steps.now c.loop-next.steps) c.in-Some.is c.loop-next.invariant in
+    let w
+    = subst (λ o. Matching b text s o found c.args.steps.now c.loop-next.steps) c.in-Some.is
+    c.loop-next.invariant in
     let f = c.in-Some.reached in
     let at = w.going in
     let item : Item = (at.key, link_of f.node) in
     let before = subst (λ xs. Onward b text xs found) at.parts w.onward in
     let decided = at.decides in
-    let after : Onward b text at.left (found_values c.if-reached.found.items) = elim c.if-reached.branch [
-      | then-reached+in_ok-push_values v ↦ rw (v.found-is) (on_match b text item at.left found (found_values v.push_values.new.found.items) v.in_ok-push_values.ensures (decided.0 v.if-reached.true) before)
-      | else-reached v ↦ rw (v.found-is) (on_other b text item at.left found (inl (λ m. false≢true (sym v.if-reached.false ∙ decided.1 m))) before)
+    let after : Onward b text at.left (found_values c.if-reached.found.items)
+    = elim c.if-reached.branch [
+      | then-reached+in_ok-push_values v ↦ rw (v.found-is)
+          (on_match b text item at.left found (found_values v.push_values.new.found.items)
+          v.in_ok-push_values.ensures (decided.0 v.if-reached.true) before)
+      | else-reached v ↦ rw (v.found-is)
+          (on_other b text item at.left found
+          (inl (λ m. false≢true (sym v.if-reached.false ∙ decided.1 m))) before)
     ] in
-    let on = goes b text at.left c.next.new.self c.in_ok-next.next (found_values c.if-reached.found.items) (c.in_ok-next.ensures.finds text at.left at.searching) after in
+    let on
+    = goes b text at.left c.next.new.self c.in_ok-next.next
+    (found_values c.if-reached.found.items)
+    (c.in_ok-next.ensures.finds text at.left at.searching) after in
     record {
       accepted = w.accepted;
       is = on.is;
       going = on.going;
       onward = on.onward;
-      cost = omega (arith, w.cost, c.in_ok-next.ensures.cost, owed_next b c.next.new.self c.in_ok-next.next);
+      cost
+          = omega (
+            arith,
+            w.cost,
+            c.in_ok-next.ensures.cost,
+            owed_next b c.next.new.self c.in_ok-next.next,
+          );
     }
 
 pub loop-next-smaller : goal.loop-next-smaller
@@ -108,10 +167,13 @@ loop-next-smaller g c =
     let b = c.args.self.now.nodes in
     let text = c.args.text.now in
     let s = c.loop-next.search in
-    let w = subst (λ o. Matching b text s o (found_values c.loop-next.found.items) c.args.steps.now c.loop-next.steps) c.in-Some.is c.loop-next.invariant in
+    let w
+    = subst (λ o. Matching b text s o (found_values c.loop-next.found.items) c.args.steps.now
+    c.loop-next.steps) c.in-Some.is c.loop-next.invariant in
     let at = w.going in
     subst (λ o. to_do b c.next.new.self c.in_ok-next.next < to_do b s o) (sym c.in-Some.is)
-    (fewer b text at.left s c.next.new.self c.in_ok-next.next at.searching (c.in_ok-next.ensures.finds text at.left at.searching))
+    (fewer b text at.left s c.next.new.self c.in_ok-next.next at.searching
+    (c.in_ok-next.ensures.finds text at.left at.searching))
 
 pub returns-clause-cost : goal.returns-clause-cost
 returns-clause-cost g c =
@@ -123,7 +185,9 @@ returns-clause-matching g c =
     let b = c.args.self.now.nodes in
     let text = c.args.text.now in
     let found = found_values c.loop-next.found.items in
-    let w = subst (λ o. Matching b text c.loop-next.search o found c.args.steps.now c.loop-next.steps) c.in_default.is c.loop-next.invariant in
+    let w
+    = subst (λ o. Matching b text c.loop-next.search o found c.args.steps.now c.loop-next.steps)
+    c.in_default.is c.loop-next.invariant in
     let f = none_left b text w.is found w.going w.onward in
     record {
       pairs = f.pairs;
@@ -136,6 +200,8 @@ returns-clause-exact g c =
     let b = c.args.self.now.nodes in
     let text = c.args.text.now in
     let found = found_values c.loop-next.found.items in
-    let w = subst (λ o. Matching b text c.loop-next.search o found c.args.steps.now c.loop-next.steps) c.in_default.is c.loop-next.invariant in
+    let w
+    = subst (λ o. Matching b text c.loop-next.search o found c.args.steps.now c.loop-next.steps)
+    c.in_default.is c.loop-next.invariant in
     let f = none_left b text w.is found w.going w.onward in
     f.found_is ∙ all_matching b text f.pairs f.chosen

@@ -34,7 +34,8 @@ to_do b s None = 0
 to_do b s (Some f) = count_left b s.levels.items + 1
 
 -- the values so far with those of the nodes that are left
-pub record Matching (b text : List ℕ) (s : Search) (next : Option FoundNode) (found : List Value) (before now : ℕ) : Type 0 where
+pub record Matching (b text : List ℕ) (s : Search) (next : Option FoundNode) (found : List Value)
+    (before now : ℕ) : Type 0 where
   pub accepted : index_fault b ≡ None
   pub is : List Item
   pub going : IsGoing b text s next is
@@ -42,7 +43,8 @@ pub record Matching (b text : List ℕ) (s : Search) (next : Option FoundNode) (
   pub cost : now + owed b s next ≤ before + length (all_items b)
 
 abbrev pub invariant-loop-next : goal.invariant-loop-next
-invariant-loop-next g l = Matching l.self.nodes l.text l.search l.next (found_values l.found.items) l.fn.steps l.steps
+invariant-loop-next g l =
+    Matching l.self.nodes l.text l.search l.next (found_values l.found.items) l.fn.steps l.steps
 
 abbrev pub decreases-loop-next : goal.decreases-loop-next
 decreases-loop-next g l = to_do l.self.nodes l.search l.next

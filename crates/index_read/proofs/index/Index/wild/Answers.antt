@@ -12,13 +12,16 @@ use Rattle.index_read.proofs.index.Index.wild.Goals as goal
 
 pub returns-clause-wild : goal.returns-clause-wild
 returns-clause-wild g c =
-    subst (λ fs. IsWild (at c.args.self.now.nodes (root c.args.self.now.nodes)) c.args.text.now (found_values fs)) (sym c.from_vec.ensures)
+    subst (λ fs. IsWild (at c.args.self.now.nodes (root c.args.self.now.nodes)) c.args.text.now
+    (found_values fs)) (sym c.from_vec.ensures)
     (record {
       unordered = found_values c.in_ok-found.found.items;
       matching = c.in_ok-found.ensures.matching;
       ordered = by_priority c.in_ok-found.found.items c.sort_by_key.new.self.items
-          (c.in_ok-sort_by_key.ensures.sorted (λ v. v.priority) (always_returns_same _ _ _ (λ a r q k. search rules)))
-          (c.in_ok-sort_by_key.ensures.stable (λ v. v.priority) (always_returns_same _ _ _ (λ a r q k. search rules)));
+          (c.in_ok-sort_by_key.ensures.sorted (λ v. v.priority)
+          (always_returns_same _ _ _ (λ a r q k. search rules)))
+          (c.in_ok-sort_by_key.ensures.stable (λ v. v.priority)
+          (always_returns_same _ _ _ (λ a r q k. search rules)));
     })
 
 pub returns-clause-map : goal.returns-clause-map
@@ -27,10 +30,15 @@ returns-clause-map g c =
     subst (λ fs. IsWild (values_of m) c.args.text.now (found_values fs)) (sym c.from_vec.ensures)
     (record {
       unordered = found_values c.in_ok-found.found.items;
-      matching = matching_same (at c.args.self.now.nodes (root c.args.self.now.nodes)) (values_of m) c.args.text.now (found_values c.in_ok-found.found.items) h.values c.in_ok-found.ensures.matching;
+      matching
+          = matching_same (at c.args.self.now.nodes (root c.args.self.now.nodes)) (values_of m)
+          c.args.text.now (found_values c.in_ok-found.found.items) h.values
+          c.in_ok-found.ensures.matching;
       ordered = by_priority c.in_ok-found.found.items c.sort_by_key.new.self.items
-          (c.in_ok-sort_by_key.ensures.sorted (λ v. v.priority) (always_returns_same _ _ _ (λ a r q k. search rules)))
-          (c.in_ok-sort_by_key.ensures.stable (λ v. v.priority) (always_returns_same _ _ _ (λ a r q k. search rules)));
+          (c.in_ok-sort_by_key.ensures.sorted (λ v. v.priority)
+          (always_returns_same _ _ _ (λ a r q k. search rules)))
+          (c.in_ok-sort_by_key.ensures.stable (λ v. v.priority)
+          (always_returns_same _ _ _ (λ a r q k. search rules)));
     })
 
 pub returns-clause-exact : goal.returns-clause-exact
@@ -41,6 +49,8 @@ returns-clause-exact g c =
     ap found_values c.from_vec.ensures
     ∙ by_priority-is (found_values found) (found_values ordered)
     (by_priority found ordered
-    (c.in_ok-sort_by_key.ensures.sorted (λ v. v.priority) (always_returns_same _ _ _ (λ a r q k. search rules)))
-    (c.in_ok-sort_by_key.ensures.stable (λ v. v.priority) (always_returns_same _ _ _ (λ a r q k. search rules))))
+    (c.in_ok-sort_by_key.ensures.sorted (λ v. v.priority)
+    (always_returns_same _ _ _ (λ a r q k. search rules)))
+    (c.in_ok-sort_by_key.ensures.stable (λ v. v.priority)
+    (always_returns_same _ _ _ (λ a r q k. search rules))))
     ∙ ap by_rising_priority c.in_ok-found.ensures.exact

@@ -11,7 +11,9 @@ returns-in_ok-find-2 c =
     record {
       text = ready.text;
       over = ready.over;
-      known = record { runs = c.in_ok-find.ensures; ends = c.in_ok-find-2.ensures ready.text ready.over };
+      known
+          = record
+          { runs = c.in_ok-find.ensures; ends = c.in_ok-find-2.ensures ready.text ready.over };
     }
 
 pub returns-else-is_leaf : goal.returns-else-is_leaf

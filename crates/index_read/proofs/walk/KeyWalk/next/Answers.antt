@@ -1,9 +1,11 @@
-use Rattle.std.proofs.Common.{◌≡◌, refl, sym, ap, subst, ◌∙◌, ◌∷◌, ◌++◌, [], length, Some, arith, rules}
+use Rattle.std.proofs.Common.{◌≡◌, refl, sym, ap, subst, ◌∙◌, ◌∷◌, ◌++◌, [], length, Some, arith}
+use Rattle.std.proofs.Common.{rules}
 use Rattle.std.proofs.lemmas.Result.{err_from_is_err_and}
 use Rattle.index_nodes.specs.Fields.{link_of}
 use Rattle.index_read.specs.Keys.{key_of, items_left, AreLevels}
 use Rattle.index_read.specs.Walks.{left_after, IsWritten, level_of, after_byte}
-use Rattle.index_read.proofs.KeyLemmas.{levels-pop, nothing_left, comes_left, comes_levels, written-on, written-same}
+use Rattle.index_read.proofs.KeyLemmas.{levels-pop, nothing_left, comes_left, comes_levels}
+use Rattle.index_read.proofs.KeyLemmas.{written-on, written-same}
 use Rattle.index_read.proofs.walk.KeyWalk.next.Goals as goal
 
 pub next_child-requires : goal.next_child-requires
@@ -21,7 +23,8 @@ leave-requires-clause-node g c =
 pub leave-requires-clause-written : goal.leave-requires-clause-written
 leave-requires-clause-written g c =
     let b = c.args.nodes.now in
-    subst (IsWritten b c.loop-level.self.key.items c.loop-level.self.written) c.in-Some.ensures.items c.loop-level.invariant.written
+    subst (IsWritten b c.loop-level.self.key.items c.loop-level.self.written)
+    c.in-Some.ensures.items c.loop-level.invariant.written
 
 pub loop-level-preserved : goal.loop-level-preserved
 loop-level-preserved g c =
@@ -49,7 +52,11 @@ returns-in_err-enter-clause-cost g c =
     let e = c.in-Some-next_child.ensures in
     let name : link_of c.node-node.result ≡ c.in-Some-next_child.at = search rules in
     let are = subst (AreLevels b) c.in-Some.ensures.items w.are in
-    let one = sym w.still ∙ ap (items_left b []) c.in-Some.ensures.items ∙ comes_left b c.requires.accepted c.pop.new.self.items c.in-Some.level are c.in-Some-next_child.byte c.in-Some-next_child.at n e.some e.from e.first e.top name c.node-node.ensures.node in
+    let one
+    = sym w.still ∙ ap (items_left b []) c.in-Some.ensures.items
+    ∙ comes_left b c.requires.accepted c.pop.new.self.items c.in-Some.level are
+    c.in-Some-next_child.byte c.in-Some-next_child.at n e.some e.from e.first e.top name
+    c.node-node.ensures.node in
     let some = ap length one in
     let p = err_from_is_err_and c.from_residual.result c.from_residual.ensures.1 in
     let none = ap (λ r. length (left_after r b c.enter.new.self)) p.1 in
@@ -69,22 +76,30 @@ returns-in-Some-clause-goes_on g c =
     let kept = c.in_ok-enter.ensures in
     let name : link_of c.node-node.result ≡ c.in-Some-next_child.at = search rules in
     let are = subst (AreLevels b) c.in-Some.ensures.items w.are in
-    let before = subst (IsWritten b c.loop-level.self.key.items c.loop-level.self.written) c.in-Some.ensures.items w.written in
-    let on = written-on b c.loop-level.self.key.items c.loop-level.self.written ps l (after_byte l byte) (level_of n (Some byte)) refl before in
+    let before
+    = subst (IsWritten b c.loop-level.self.key.items c.loop-level.self.written)
+    c.in-Some.ensures.items w.written in
+    let on
+    = written-on b c.loop-level.self.key.items c.loop-level.self.written ps l
+    (after_byte l byte) (level_of n (Some byte)) refl before in
     record {
       still =
           sym w.still
           ∙ ap (items_left b []) c.in-Some.ensures.items
-          ∙ comes_left b c.requires.accepted ps l are byte at n e.some e.from e.first e.top name c.node-node.ensures.node
+          ∙ comes_left b c.requires.accepted ps l are byte at n e.some e.from e.first e.top name
+          c.node-node.ensures.node
           ∙ ap (λ ls. (key_of b ls, link_of n) ∷ items_left b [] ls) (sym kept.levels);
       node = c.node-node.ensures.node;
       walking = record {
         levels =
             subst (AreLevels b) (sym kept.levels)
-            (comes_levels b c.requires.accepted ps l are byte at n e.some e.from e.first e.top name c.node-node.ensures.node);
+            (comes_levels b c.requires.accepted ps l are byte at n e.some e.from e.first e.top name
+            c.node-node.ensures.node);
         written =
             subst (IsWritten b new.key.items new.written) (sym kept.levels)
-            (written-same b c.loop-level.self.key.items new.key.items c.loop-level.self.written new.written ((ps ++ after_byte l byte ∷ []) ++ level_of n (Some byte) ∷ []) kept.key kept.written on);
+            (written-same b c.loop-level.self.key.items new.key.items c.loop-level.self.written
+            new.written ((ps ++ after_byte l byte ∷ []) ++ level_of n (Some byte) ∷ [])
+            kept.key kept.written on);
       };
     }
 
@@ -96,6 +111,12 @@ returns-in-Some-clause-cost g c =
     let e = c.in-Some-next_child.ensures in
     let name : link_of c.node-node.result ≡ c.in-Some-next_child.at = search rules in
     let are = subst (AreLevels b) c.in-Some.ensures.items w.are in
-    let still = sym w.still ∙ ap (items_left b []) c.in-Some.ensures.items ∙ comes_left b c.requires.accepted c.pop.new.self.items c.in-Some.level are c.in-Some-next_child.byte c.in-Some-next_child.at n e.some e.from e.first e.top name c.node-node.ensures.node ∙ ap (λ ls. (key_of b ls, link_of n) ∷ items_left b [] ls) (sym c.in_ok-enter.ensures.levels) in
+    let still
+    = sym w.still ∙ ap (items_left b []) c.in-Some.ensures.items
+    ∙ comes_left b c.requires.accepted c.pop.new.self.items c.in-Some.level are
+    c.in-Some-next_child.byte c.in-Some-next_child.at n e.some e.from e.first e.top name
+    c.node-node.ensures.node
+    ∙ ap (λ ls. (key_of b ls, link_of n) ∷ items_left b [] ls)
+    (sym c.in_ok-enter.ensures.levels) in
     let fewer = ap length still in
     omega (arith, fewer, w.steps, c.node-node.ensures.step)

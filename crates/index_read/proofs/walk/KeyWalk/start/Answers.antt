@@ -7,4 +7,5 @@ pub returns-clause-still : goal.returns-clause-still
 returns-clause-still g c =
     root_items c.args.nodes.now c.root.ensures.accepted c.node-node.result c.push.new.self.items
     (c.node-node.ensures.name ∙ c.root.ensures.root)
-    (c.in_ok-push.ensures.items ∙ ap (λ ls. ls ++ level_of c.node-node.result None ∷ []) c.new-levels.ensures.items)
+    (c.in_ok-push.ensures.items
+    ∙ ap (λ ls. ls ++ level_of c.node-node.result None ∷ []) c.new-levels.ensures.items)

@@ -12,7 +12,8 @@ pub returns-clause-shown : goal.returns-clause-shown
 returns-clause-shown c =
     let gives = c.into_iter-key-iterator.ensures.into_iter_gives in
     sym (append-nil (entries_shown c.loop-key.entries.items))
-    ∙ ap (λ it. entries_shown c.loop-key.entries.items ++ entries_of it) (sym c.in-None.ensures.steps.0)
+    ∙ ap (λ it. entries_shown c.loop-key.entries.items ++ entries_of it)
+    (sym c.in-None.ensures.steps.0)
     ∙ c.loop-key.invariant
     ∙ ap entries_of gives.0
     ∙ sym (entries-map_of c.self.inside.lists.entries (ordered c.self.inside.lists.entries gives.5))
@@ -22,10 +23,13 @@ pub returns-clause-rises : goal.returns-clause-rises
 returns-clause-rises c =
     let gives = c.into_iter-key-iterator.ensures.into_iter_gives in
     let order = ordered c.self.inside.lists.entries gives.5 in
-    subst Rises (sym (entries-map_of c.self.inside.lists.entries order) ∙ ap entries c.self.view_is) (rises (entries_of c.self.inside.lists.entries) order)
+    subst Rises (sym (entries-map_of c.self.inside.lists.entries order) ∙ ap entries c.self.view_is)
+    (rises (entries_of c.self.inside.lists.entries) order)
 
 pub returns-clause-sound : goal.returns-clause-sound
 returns-clause-sound c =
     let gives = c.into_iter-key-iterator.ensures.into_iter_gives in
     let order = ordered c.self.inside.lists.entries gives.5 in
-    subst (AllByRecursion IsStorableEntry) (sym (entries-map_of c.self.inside.lists.entries order) ∙ ap entries c.self.view_is) c.self.invariant
+    subst (AllByRecursion IsStorableEntry)
+    (sym (entries-map_of c.self.inside.lists.entries order) ∙ ap entries c.self.view_is)
+    c.self.invariant

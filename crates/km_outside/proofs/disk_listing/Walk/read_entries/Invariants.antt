@@ -4,4 +4,5 @@ use Rattle.km_outside.proofs.disk_listing.Walk.read_entries.Given as goal
 
 abbrev pub invariant-loop-entry : goal.invariant-loop-entry
 invariant-loop-entry g l =
-    IsSoundWalk l.self × (walk_left l.self ≤ walk_left l.initial.self) × (l.self.listing ≡ l.initial.self.listing)
+    IsSoundWalk l.self × (walk_left l.self ≤ walk_left l.initial.self)
+    × (l.self.listing ≡ l.initial.self.listing)

@@ -7,9 +7,14 @@ pub returns-in_ok-push-in-File-clause-sound : goal.returns-in_ok-push-in-File-cl
 returns-in_ok-push-in-File-clause-sound g c =
     let listing = c.args.self.now.listing in
     let is : test_of listing c.into_bytes.result.items ≡ true =
-    ap (test_of listing) (ap (λ v. v.items) c.into_bytes.ensures.value ∙ sym c.as_bytes.ensures.value) ∙ sym c.lists.ensures ∙ c.if-not-lists.false in
+    ap (test_of listing)
+    (ap (λ v. v.items) c.into_bytes.ensures.value ∙ sym c.as_bytes.ensures.value)
+    ∙ sym c.lists.ensures ∙ c.if-not-lists.false in
     record {
       found = omega (arith, c.requires.found, c.in_ok-push-in-File.ensures.len);
       met = omega arith;
-      fits = subst (All (λ path. test_of listing path.items ≡ true)) (sym c.in_ok-push-in-File.ensures.items) (All-push (λ path. test_of listing path.items ≡ true) _ _ c.requires.fits is);
+      fits
+          = subst (All (λ path. test_of listing path.items ≡ true))
+          (sym c.in_ok-push-in-File.ensures.items)
+          (All-push (λ path. test_of listing path.items ≡ true) _ _ c.requires.fits is);
     }

@@ -6,11 +6,15 @@ use Rattle.loaded_list.proofs.LineSteps.{begins, one-more, no-more}
 use Rattle.loaded_list.proofs.loaded.Loaded.read.Goals as goal
 
 pub loop-rest-init : goal.loop-rest-init
-loop-rest-init c = ap (λ ns. ns ++ flat_map name_if_any (lines_of c.args.bytes.now)) c.new-names.ensures ∙ begins c.args.bytes.now
+loop-rest-init c =
+    ap (λ ns. ns ++ flat_map name_if_any (lines_of c.args.bytes.now)) c.new-names.ensures
+    ∙ begins c.args.bytes.now
 
 pub loop-rest-preserved : goal.loop-rest-preserved
 loop-rest-preserved c =
-    one-more c.loop-rest.names _ c.loop-rest.rest.now c.first_line.result.0.now c.first_line.result.1.now c.args.bytes.now c.first_line.ensures.lines c.in_ok-push_name.ensures c.loop-rest.invariant
+    one-more c.loop-rest.names _ c.loop-rest.rest.now c.first_line.result.0.now
+    c.first_line.result.1.now c.args.bytes.now c.first_line.ensures.lines
+    c.in_ok-push_name.ensures c.loop-rest.invariant
 
 pub returns : goal.returns
 returns c =

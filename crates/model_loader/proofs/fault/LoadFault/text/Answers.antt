@@ -5,9 +5,11 @@ use Rattle.model_loader.specs.FaultText.{load_fault_text}
 use Rattle.model_loader.proofs.fault.LoadFault.text.Goals as goal
 
 -- the pieces of the text for an export that is taken
-taken : (name owner : List ℕ) → name ++ (codes " is taken by " ++ (owner ++ [])) ≡ name ++ codes " is taken by " ++ owner
+taken : (name owner : List ℕ)
+    → name ++ (codes " is taken by " ++ (owner ++ [])) ≡ name ++ codes " is taken by " ++ owner
 taken name owner =
-    ap (λ t. name ++ (codes " is taken by " ++ t)) (append-nil owner) ∙ sym (append_assoc name (codes " is taken by ") owner)
+    ap (λ t. name ++ (codes " is taken by " ++ t)) (append-nil owner)
+    ∙ sym (append_assoc name (codes " is taken by ") owner)
 
 pub returns-in-ExportTaken : goal.returns-in-ExportTaken
 returns-in-ExportTaken c =
@@ -16,7 +18,8 @@ returns-in-ExportTaken c =
     let owner = c.in-ExportTaken.owner in
     subst (λ fault. IfOk text (λ t. t ≡ load_fault_text fault)) (sym c.in-ExportTaken.is)
     (subst (λ whole. IfOk text (λ t. t ≡ whole))
-    (ap (λ n. n ++ (codes " is taken by " ++ (c.as_bytes-in-ExportTaken-2.result.now ++ []))) c.as_bytes-in-ExportTaken.ensures
+    (ap (λ n. n ++ (codes " is taken by " ++ (c.as_bytes-in-ExportTaken-2.result.now ++ [])))
+    c.as_bytes-in-ExportTaken.ensures
     ∙ ap (λ o. name ++ (codes " is taken by " ++ (o ++ []))) c.as_bytes-in-ExportTaken-2.ensures
     ∙ taken name owner)
     c.concat-in-ExportTaken.ensures)

@@ -9,7 +9,9 @@ use Rattle.model_loader.proofs.machine.Machine.new.Goals as goal
 pub invariant_of-result : goal.invariant_of-result
 unfolding table
 invariant_of-result c =
-    subst (λ (es : List Entry). IsKept (record { kernel = c.args.kernel; region = c.args.region; entries = es }) c.in_ok-table.table) (sym c.new.ensures.items)
+    subst (λ (es : List Entry). IsKept
+    (record { kernel = c.args.kernel; region = c.args.region; entries = es })
+    c.in_ok-table.table) (sym c.new.ensures.items)
     (record {
       keeps = record { at = λ x. c.in_ok-table.ensures.table x ∙ sym (first-alone _) };
       names = names-new c.args.kernel c.args.region;

@@ -7,8 +7,14 @@ use Rattle.model_loader.proofs.needs.Check.check.Goals as goal
 
 pub returns-in-None-clause-passed : goal.returns-in-None-clause-passed
 returns-in-None-clause-passed c = λ machine keeps.
-    need_test-is machine c.args.table.now c.args.facts.now c.args.self keeps ∙ ap (option_map (λ (n : FactsNeed). fault_of c.args.self n.name)) (sym c.in-None.ensures)
+    need_test-is machine c.args.table.now c.args.facts.now c.args.self keeps
+    ∙ ap (option_map (λ (n : FactsNeed). fault_of c.args.self n.name)) (sym c.in-None.ensures)
 
 pub returns-in_ok-name-in-Some-clause-fault : goal.returns-in_ok-name-in-Some-clause-fault
 returns-in_ok-name-in-Some-clause-fault c = λ machine keeps.
-    inr (need_test-is machine c.args.table.now c.args.facts.now c.args.self keeps ∙ ap (option_map (λ (n : FactsNeed). fault_of c.args.self n.name)) (sym c.in-Some.ensures) ∙ ap Some (ap (fault_of c.args.self) (sym (c.in_ok-name-in-Some.ensures ∙ c.as_bytes.ensures)) ∙ sym c.fault.ensures))
+    inr (need_test-is machine c.args.table.now c.args.facts.now c.args.self keeps
+    ∙ ap (option_map (λ (n : FactsNeed). fault_of c.args.self n.name))
+    (sym c.in-Some.ensures)
+    ∙ ap Some (ap (fault_of c.args.self)
+    (sym (c.in_ok-name-in-Some.ensures ∙ c.as_bytes.ensures))
+    ∙ sym c.fault.ensures))

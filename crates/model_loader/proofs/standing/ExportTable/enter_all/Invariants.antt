@@ -7,7 +7,9 @@ use Rattle.model_loader.proofs.standing.ExportTable.enter_all.Given as goal
 abbrev pub invariant-loop-next : goal.invariant-loop-next
 invariant-loop-next l = record {
   room : length l.rest.items ≤ spare l.self.standings;
-  at : (x : List ℕ) → option_or (standing_of l.self x) (standing_in x l.rest.items) ≡ option_or (standing_of l.initial.self x) (standing_in x l.initial.rest.items);
+  at : (x : List ℕ)
+      → option_or (standing_of l.self x) (standing_in x l.rest.items)
+      ≡ option_or (standing_of l.initial.self x) (standing_in x l.initial.rest.items);
 }
 
 abbrev pub decreases-loop-next : goal.decreases-loop-next

@@ -10,5 +10,11 @@ returns-in_ok-first-in-Some c =
     let rules = c.args.self.now.rules in
     let maps = maps_of c.args.self.now.indexes in
     let b = c.args.use_blacklist in
-    let whole = ap (kept rules b) (c.in_ok-first-in-Some.ensures ∙ ap (λ x. first_list 1 (lists rules maps x)) c.as_bytes-in-Some.ensures) ∙ found-of_normal rules maps b c.args.name.now c.in-Some.name (ap normal_alias (sym c.as_bytes.ensures) ∙ sym c.in_ok-name.ensures ∙ c.in-Some.is) in
+    let whole
+    = ap (kept rules b)
+    (c.in_ok-first-in-Some.ensures
+    ∙ ap (λ x. first_list 1 (lists rules maps x)) c.as_bytes-in-Some.ensures)
+    ∙ found-of_normal rules maps b c.args.name.now c.in-Some.name
+    (ap normal_alias (sym c.as_bytes.ensures) ∙ sym c.in_ok-name.ensures ∙ c.in-Some.is)
+    in
     subst (λ g. IfOk c.kept.result (λ f. f ≡ g)) whole c.kept.ensures

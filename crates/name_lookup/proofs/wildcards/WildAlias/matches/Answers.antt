@@ -13,11 +13,13 @@ returns-in-Some c =
     let w = c.in-Some.ensures.cases in
     c.matches.ensures.test
     ∙ ap (is_match rest) w.1
-    ∙ sym (match-front front rest x c.args.self.now.plain_front ∙ ap (λ b. b && is_match rest (drop (length front) x)) w.0)
+    ∙ sym (match-front front rest x c.args.self.now.plain_front
+    ∙ ap (λ b. b && is_match rest (drop (length front) x)) w.0)
 
 pub returns-in-None : goal.returns-in-None
 returns-in-None c =
     let front = c.args.self.now.front.now in
     let rest = c.args.self.now.rest.now in
     let x = c.args.name.now in
-    sym (match-front front rest x c.args.self.now.plain_front ∙ ap (λ b. b && is_match rest (drop (length front) x)) c.in-None.ensures.cases)
+    sym (match-front front rest x c.args.self.now.plain_front
+    ∙ ap (λ b. b && is_match rest (drop (length front) x)) c.in-None.ensures.cases)

@@ -8,8 +8,10 @@ returns-clause-ok c = λ items is.
     elim c.match-name.branch [
       | in-Some+in_ok-keep_first w ↦
           rw (w.self-inside-is, w.in-Some.is)
-          (entries-push name_of _ _ c.self.inside.count _ items _ c.self.view_is is w.in_ok-keep_first.ensures.ok)
+          (entries-push name_of _ _ c.self.inside.count _ items _ c.self.view_is is
+          w.in_ok-keep_first.ensures.ok)
       | in_default w ↦
           rw (w.self-inside-is, w.in_default.is)
-          (entries-push name_of _ _ c.self.inside.count _ items _ c.self.view_is is (λ other. or-none _))
+          (entries-push name_of _ _ c.self.inside.count _ items _ c.self.view_is is
+          (λ other. or-none _))
     ]

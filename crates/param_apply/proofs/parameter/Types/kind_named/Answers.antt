@@ -9,5 +9,8 @@ pub returns : goal.returns
 unfolding kind_named
 returns c =
     c.kind_at.ensures
-    ∙ ap (λ o. option_and_then (λ text. kind_of (text_type text)) (option_and_then (slice_get c.args.self.now.texts) o))
-    (c.in_ok-place.ensures ∙ place-named c.args.self.now.names text_name c.args.self.now.texts c.args.name.now c.args.self.now.named)
+    ∙ ap (λ o. option_and_then (λ text. kind_of (text_type text))
+    (option_and_then (slice_get c.args.self.now.texts) o))
+    (c.in_ok-place.ensures
+    ∙ place-named c.args.self.now.names text_name c.args.self.now.texts c.args.name.now
+    c.args.self.now.named)

@@ -4,4 +4,8 @@ use Rattle.planned_modules.specs.Planner.{sources_of}
 use Rattle.plan_builder.proofs.steps.Stepping.push_modules.Given as goal
 
 abbrev pub invariant-loop-place : goal.invariant-loop-place
-invariant-loop-place l = l.steps ≡ l.fn.steps ++ map (module_step (sources_of l.self.planner.now) l.self.request.now) (take l.place-index l.places)
+invariant-loop-place l =
+    l.steps
+    ≡ l.fn.steps
+    ++ map (module_step (sources_of l.self.planner.now) l.self.request.now)
+    (take l.place-index l.places)

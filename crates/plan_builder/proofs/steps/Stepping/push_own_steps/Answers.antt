@@ -11,7 +11,16 @@ loop-name-preserved c =
     let names = c.as_slice-name-items.result.now in
     let i = c.loop-name.name-index in
     c.in_ok-push_unless.ensures
-    ∙ (λ j. (c.loop-name.invariant ∙ ap (λ ns. c.args.steps.now ++ own_steps s c.args.self.now.request.now c.args.earlier.now (take i ns)) (sym c.as_slice-name-items.ensures)) j ++ one (c.as_bytes.ensures j))
-    ∙ append_assoc c.args.steps.now (own_steps s c.args.self.now.request.now c.args.earlier.now (take i names)) (one c.name-item.result)
-    ∙ ap (λ xs. c.args.steps.now ++ xs) (sym (flat-more one names i c.name-item.result c.loop-name-test.true c.name-item.is))
-    ∙ ap (λ ns. c.args.steps.now ++ own_steps s c.args.self.now.request.now c.args.earlier.now (take (i + 1) ns)) c.as_slice-name-items.ensures
+    ∙ (λ j. (c.loop-name.invariant
+    ∙ ap (λ ns. c.args.steps.now
+    ++ own_steps s c.args.self.now.request.now c.args.earlier.now (take i ns))
+    (sym c.as_slice-name-items.ensures)) j
+    ++ one (c.as_bytes.ensures j))
+    ∙ append_assoc c.args.steps.now
+    (own_steps s c.args.self.now.request.now c.args.earlier.now (take i names))
+    (one c.name-item.result)
+    ∙ ap (λ xs. c.args.steps.now ++ xs)
+    (sym (flat-more one names i c.name-item.result c.loop-name-test.true c.name-item.is))
+    ∙ ap (λ ns. c.args.steps.now
+    ++ own_steps s c.args.self.now.request.now c.args.earlier.now (take (i + 1) ns))
+    c.as_slice-name-items.ensures

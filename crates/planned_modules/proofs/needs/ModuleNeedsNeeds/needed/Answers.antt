@@ -10,10 +10,15 @@ use Rattle.planned_modules.proofs.needs.ModuleNeedsNeeds.needed.Goals as goal
 pub returns-clause-before_inside : goal.returns-clause-before_inside
 returns-clause-before_inside c =
     let s = sources_of c.args.self.now in
-    let line = c.in_ok-before.ensures ∙ ap (λ h. line_places (modules (sources_of h)) c.args.place) c.self.view_is in
-    let made = c.in_ok-extend_from_slice.ensures.items ∙ (λ i. line i ++ (c.deref.ensures.value ∙ c.in_ok-soft.ensures) i) in
+    let line
+    = c.in_ok-before.ensures
+    ∙ ap (λ h. line_places (modules (sources_of h)) c.args.place) c.self.view_is in
+    let made
+    = c.in_ok-extend_from_slice.ensures.items
+    ∙ (λ i. line i ++ (c.deref.ensures.value ∙ c.in_ok-soft.ensures) i) in
     subst (All (λ y. y < length (modules (sources_of c.args.self.now)))) (sym made)
-    (both-once s c.args.place (needed_names (line_at (modules s) c.args.place)) (flat_map (names_before (name_at (modules s) c.args.place)) s.rules))
+    (both-once s c.args.place (needed_names (line_at (modules s) c.args.place))
+    (flat_map (names_before (name_at (modules s) c.args.place)) s.rules))
 
 pub returns-clause-after_inside : goal.returns-clause-after_inside
 returns-clause-after_inside c =

@@ -9,5 +9,6 @@ use Rattle.planned_modules.proofs.planner.Planner.is_available.Goals as goal
 pub any_troubled-requires : goal.any_troubled-requires
 any_troubled-requires c =
     let ms = modules (sources_of c.args.self.now) in
-    subst (All (λ y. y < length (modules (sources_of c.args.self.now)))) (sym (c.deref.ensures.value ∙ c.in_ok-line.ensures))
+    subst (All (λ y. y < length (modules (sources_of c.args.self.now))))
+    (sym (c.deref.ensures.value ∙ c.in_ok-line.ensures))
     (places-inside ms (needed_names (line_at ms c.args.place)))

@@ -10,7 +10,10 @@ returns-clause-ok c =
     let made = c.in_ok-bindings.ensures.ok in
     let lists = c.in_ok-lists in
     record {
-      provider = λ x. provider-placed (modules_of c.args.tree.now) (kernel_of c.args.kernel.now) b.names b.items.items lists.lists.owners.items b.known x made.items_are made.names_are lists.ensures.owners made.known_is;
+      provider
+          = λ x. provider-placed (modules_of c.args.tree.now) (kernel_of c.args.kernel.now) b.names
+          b.items.items lists.lists.owners.items b.known x made.items_are made.names_are
+          lists.ensures.owners made.known_is;
       closures = lists.ensures.closures;
       obstacles = lists.ensures.unmet;
     }

@@ -10,7 +10,11 @@ abbrev pub invariant-loop-i : goal.invariant-loop-i
 invariant-loop-i l =
     record {
       long : length l.rows.items ≡ length l.lists;
-      rows_long : All (λ (row : Vec ℕ). length row.items ≤ div_ceil (length l.lists) 64) l.rows.items;
-      in_order : All (λ (row : Vec ℕ). (y : ℕ) → has_mark row.items y ≡ true → has l.order.items y ≡ true) l.rows.items;
-      known : (y : ℕ) → has (take l.i l.order.items) y ≡ true → AreReached (goes l.lists) (length l.lists) (row_at l.rows.items y) y;
+      rows_long : All (λ (row : Vec ℕ). length row.items ≤ div_ceil (length l.lists) 64)
+          l.rows.items;
+      in_order : All
+          (λ (row : Vec ℕ). (y : ℕ) → has_mark row.items y ≡ true → has l.order.items y ≡ true)
+          l.rows.items;
+      known : (y : ℕ) → has (take l.i l.order.items) y ≡ true
+          → AreReached (goes l.lists) (length l.lists) (row_at l.rows.items y) y;
     }

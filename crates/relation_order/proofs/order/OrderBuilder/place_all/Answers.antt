@@ -11,5 +11,10 @@ loop-item-preserved c =
     record {
       fits = c.in_ok-place.ensures.fits;
       order = c.in_ok-place.ensures.order ∙ l.invariant.order;
-      placing = λ p. c.in_ok-place.ensures.placing (drop (l.item-index + 1) c.args.items.now) (subst (Placing (goes c.args.lists.now) (marked c.args.members.now) l.self.order.items l.self.ready.keys (goes l.self.waits.items)) (left-less c.args.items.now l.item-index (get_or c.args.items.now l.item-index 0) 0 at refl) (l.invariant.placing p));
+      placing
+          = λ p. c.in_ok-place.ensures.placing (drop (l.item-index + 1) c.args.items.now)
+          (subst (Placing (goes c.args.lists.now) (marked c.args.members.now) l.self.order.items
+          l.self.ready.keys (goes l.self.waits.items))
+          (left-less c.args.items.now l.item-index (get_or c.args.items.now l.item-index 0)
+          0 at refl) (l.invariant.placing p));
     }

@@ -9,5 +9,8 @@ invariant-loop-item l =
     record {
       fits : Fits l.lists l.members l.self;
       order : l.self.order.items ≡ l.initial.self.order.items;
-      placing : Placing (goes l.lists) (marked l.members) l.initial.self.order.items l.initial.self.ready.keys (goes l.initial.self.waits.items) l.items → Placing (goes l.lists) (marked l.members) l.self.order.items l.self.ready.keys (goes l.self.waits.items) (drop l.item-index l.items);
+      placing : Placing (goes l.lists) (marked l.members) l.initial.self.order.items
+          l.initial.self.ready.keys (goes l.initial.self.waits.items) l.items
+          → Placing (goes l.lists) (marked l.members) l.self.order.items l.self.ready.keys
+          (goes l.self.waits.items) (drop l.item-index l.items);
     }

@@ -1,4 +1,5 @@
-use Rattle.std.proofs.Common.{◌≡◌, ◌++◌, length, Some, None, option_map, sym, ap, inr, ◌∙◌, arith, append-nil}
+use Rattle.std.proofs.Common.{◌≡◌, ◌++◌, length, Some, None, option_map, sym, ap, inr, ◌∙◌, arith}
+use Rattle.std.proofs.Common.{append-nil}
 use Rattle.std.specs.List.{filter_map}
 use Rattle.km_names.specs.Lines.{lines_of}
 use Rattle.km_names.specs.Statements.{line_fault}
@@ -6,14 +7,17 @@ use Rattle.km_names.specs.declared.conf.ConfFault.TheVariants.{BadLine}
 use Rattle.unmet_file.specs.Line.{unmet_line}
 use Rattle.unmet_file.proofs.StatedLines.{stated-more}
 use Rattle.unmet_file.proofs.TextLines.{no-lines}
-use Rattle.unmet_file.proofs.LineSteps.{place_at, place-begins, place-none, place-passed, place-found, stated-begins, all-read, one-bad}
+use Rattle.unmet_file.proofs.LineSteps.{place_at, place-begins, place-none, place-passed}
+use Rattle.unmet_file.proofs.LineSteps.{place-found, stated-begins, all-read, one-bad}
 use Rattle.unmet_file.proofs.unmet.Unmet.read.Goals as goal
 
 pub loop-rest-init : goal.loop-rest-init
 loop-rest-init c =
     let bytes = c.args.bytes.now in
     record {
-      lines = ap (λ xs. xs ++ filter_map unmet_line (lines_of bytes)) c.new-lines.ensures ∙ stated-begins bytes;
+      lines
+          = ap (λ xs. xs ++ filter_map unmet_line (lines_of bytes)) c.new-lines.ensures
+          ∙ stated-begins bytes;
       place = place-begins c.args.file.now bytes;
       number = omega arith;
     }
@@ -24,8 +28,10 @@ returns-in-None-clause-err c =
     let line = c.first_line.result.0.now in
     let next = lines_of c.first_line.result.1.now in
     let nothing : None ≡ unmet_line line = sym c.in-None.is ∙ c.in_ok-unbound.ensures in
-    let named : c.in_ok-from_slice-in-None.field-0 ≡ file = c.in_ok-from_slice-in-None.ensures ∙ c.as_bytes.ensures in
-    inr (one-bad file c.args.bytes.now (BadLine c.in_ok-from_slice-in-None.field-0 c.loop-rest.number)
+    let named : c.in_ok-from_slice-in-None.field-0 ≡ file
+    = c.in_ok-from_slice-in-None.ensures ∙ c.as_bytes.ensures in
+    inr (one-bad file c.args.bytes.now
+    (BadLine c.in_ok-from_slice-in-None.field-0 c.loop-rest.number)
     (ap (option_map line_fault)
     (sym c.loop-rest.invariant.place
     ∙ ap (place_at file c.loop-rest.number) c.first_line.ensures.lines
@@ -38,7 +44,8 @@ loop-rest-preserved c =
     let line = c.first_line.result.0.now in
     let next = lines_of c.first_line.result.1.now in
     let before = c.loop-rest.lines in
-    let is : Some c.in-Some.unbound ≡ unmet_line line = sym c.in-Some.is ∙ c.in_ok-unbound.ensures in
+    let is : Some c.in-Some.unbound ≡ unmet_line line
+    = sym c.in-Some.is ∙ c.in_ok-unbound.ensures in
     record {
       lines = ap (λ xs. xs ++ filter_map unmet_line next) c.in_ok-push-in-Some.ensures.ok
           ∙ stated-more unmet_line before line next c.in-Some.unbound is
@@ -55,5 +62,9 @@ returns-clause-ok c =
     let lines = c.loop-rest.lines in
     let over : length c.loop-rest.rest.now ≡ 0 = grind arith in
     all-read c.args.file.now c.args.bytes.now lines
-    (sym c.loop-rest.invariant.place ∙ ap (place_at c.args.file.now c.loop-rest.number) (no-lines c.loop-rest.rest.now over) ∙ place-none c.args.file.now c.loop-rest.number)
-    (sym c.loop-rest.invariant.lines ∙ ap (λ ls. lines ++ filter_map unmet_line ls) (no-lines c.loop-rest.rest.now over) ∙ append-nil lines)
+    (sym c.loop-rest.invariant.place
+    ∙ ap (place_at c.args.file.now c.loop-rest.number) (no-lines c.loop-rest.rest.now over)
+    ∙ place-none c.args.file.now c.loop-rest.number)
+    (sym c.loop-rest.invariant.lines
+    ∙ ap (λ ls. lines ++ filter_map unmet_line ls) (no-lines c.loop-rest.rest.now over)
+    ∙ append-nil lines)
