@@ -16,6 +16,8 @@ mod builtin;
 #[cfg(test)]
 mod indexes;
 #[cfg(test)]
+mod lines;
+#[cfg(test)]
 mod lists;
 #[cfg(test)]
 mod machine;
