@@ -18,7 +18,7 @@ use Rattle.km_names.specs.Ascii.{is_graphic}
 use Rattle.km_names.specs.AliasForm.{normal_alias}
 use Rattle.index_format.specs.Map.{IsKey, IsText}
 use Rattle.index_write.proofs.VisibleWords.{both, graphic-text, key-of, characters, normal-key}
-use Rattle.module_facts.specs.declared.facts.Export.{Export}
+use Rattle.module_symbols.specs.declared.exports.Export.{Export}
 use Rattle.module_facts.specs.declared.facts.Facts.{Facts}
 use Rattle.provider_rel.specs.Tree.{IsTreeModule}
 use Rattle.depmod_core.specs.declared.stated.StatedKind.{StatedKind}

@@ -8,7 +8,7 @@ use Rattle.km_names.specs.Ascii.{is_graphic}
 use Rattle.km_names.specs.AliasForm.{normal_alias}
 use Rattle.index_format.specs.Map.{KeyValues}
 use Rattle.index_format.specs.Listing.{KeyValue}
-use Rattle.module_facts.specs.declared.facts.Export.{Export}
+use Rattle.module_symbols.specs.declared.exports.Export.{Export}
 use Rattle.module_facts.specs.declared.facts.Facts.{Facts}
 use Rattle.depmod_core.specs.Lines.{lines_text}
 use Rattle.depmod_core.specs.Maps.{map_of}

@@ -32,7 +32,7 @@ pub(crate) enum Argument {
 }
 
 impl Argument {
-    // Returns the argument as `clap` has it.
+    /// Returns the argument as `clap` has it.
     fn arg<'a>(&self, alloc: Global) -> Arg<'a>
         ensures { (result.global ≡ false) × (rule_of result ≡ rule_for self.now) }
     {
@@ -60,7 +60,7 @@ impl Argument {
     }
 }
 
-// Returns an argument with a value that isn't empty.
+/// Returns an argument with a value that isn't empty.
 fn valued<'a>(alloc: Global, name: &'a str) -> Arg<'a>
     ensures { (result.global ≡ false) × (rule_of result ≡ with_value name.entry.now) }
 {

@@ -33,15 +33,15 @@ pub fn read_builtin_alias(
 ) -> Result<Option<BuiltinAliasWords>, AllocError>
     ensures { IfOk result (λ asked. asked ≡ builtin_alias_request words.now) }
 {
-    let command = command(alloc, "builtin-alias", &ARGUMENTS)?;
     let texts = texts_of(alloc, words)?;
+    let command = command(alloc, "builtin-alias", &ARGUMENTS)?;
     match understood(command, texts.as_slice())? {
         Some(matches) => asked(alloc, &matches),
         None => Ok(None),
     }
 }
 
-// Returns what the matches ask for.
+/// Returns what the matches ask for.
 #[tactic(auto, unfolding(crate::specs::BuiltinAlias::builtin_alias_asked))]
 fn asked(alloc: Global, matches: &ArgMatches<'_>) -> Result<Option<BuiltinAliasWords>, AllocError>
     ensures { IfOk result (λ asked. asked ≡ builtin_alias_asked (rows_of (found_of matches.now))) }

@@ -49,15 +49,15 @@ pub struct DepmodWords {
 pub fn read_depmod(alloc: Global, words: &[Word]) -> Result<Option<DepmodWords>, AllocError>
     ensures { IfOk result (λ asked. asked ≡ depmod_request words.now) }
 {
-    let command = command(alloc, "depmod", &ARGUMENTS)?;
     let texts = texts_of(alloc, words)?;
+    let command = command(alloc, "depmod", &ARGUMENTS)?;
     match understood(command, texts.as_slice())? {
         Some(matches) => asked(alloc, &matches),
         None => Ok(None),
     }
 }
 
-// Returns what the matches ask for.
+/// Returns what the matches ask for.
 #[tactic(auto, unfolding(crate::specs::Depmod::depmod_asked))]
 fn asked(alloc: Global, matches: &ArgMatches<'_>) -> Result<Option<DepmodWords>, AllocError>
     ensures { IfOk result (λ asked. asked ≡ depmod_asked (rows_of (found_of matches.now))) }
@@ -71,14 +71,14 @@ fn asked(alloc: Global, matches: &ArgMatches<'_>) -> Result<Option<DepmodWords>,
     Ok(Some(words_for(alloc, matches, version)?))
 }
 
-// Returns whether both files of the kernel are given.
+/// Returns whether both files of the kernel are given.
 fn has_two_kernels(matches: &ArgMatches<'_>) -> bool
     ensures { result ≡ has_two_kernels (rows_of (found_of matches.now)) }
 {
     value_of(matches, "filesyms").is_some() && value_of(matches, "symvers").is_some()
 }
 
-// Returns what is asked for with a version.
+/// Returns what is asked for with a version.
 fn words_for(
     alloc: Global,
     matches: &ArgMatches<'_>,

@@ -47,7 +47,7 @@ pub(crate) fn is_given(matches: &ArgMatches<'_>, name: &str) -> bool
     is_from_words(matches.value_source(name))
 }
 
-// Returns whether a value comes from the words, and isn't a default.
+/// Returns whether a value comes from the words, and isn't a default.
 fn is_from_words(source: Option<ValueSource>) -> bool
     ensures { result ≡ is_from_words source }
 {

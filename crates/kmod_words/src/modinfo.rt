@@ -44,15 +44,15 @@ pub struct ModinfoWords {
 pub fn read_modinfo(alloc: Global, words: &[Word]) -> Result<Option<ModinfoWords>, AllocError>
     ensures { IfOk result (λ asked. asked ≡ modinfo_request words.now) }
 {
-    let command = command(alloc, "modinfo", &ARGUMENTS)?;
     let texts = texts_of(alloc, words)?;
+    let command = command(alloc, "modinfo", &ARGUMENTS)?;
     match understood(command, texts.as_slice())? {
         Some(matches) => asked(alloc, &matches),
         None => Ok(None),
     }
 }
 
-// Returns what the matches ask for.
+/// Returns what the matches ask for.
 #[tactic(auto, unfolding(crate::specs::Modinfo::modinfo_asked))]
 fn asked(alloc: Global, matches: &ArgMatches<'_>) -> Result<Option<ModinfoWords>, AllocError>
     ensures { IfOk result (λ asked. asked ≡ modinfo_asked (rows_of (found_of matches.now))) }
@@ -67,7 +67,7 @@ fn asked(alloc: Global, matches: &ArgMatches<'_>) -> Result<Option<ModinfoWords>
     Ok(Some(words_for(alloc, matches, key)?))
 }
 
-// Returns all keys that the matches ask for.
+/// Returns all keys that the matches ask for.
 #[tactic(auto, unfolding(crate::specs::Modinfo::keys_asked))]
 fn keys_asked<'a>(alloc: Global, matches: &ArgMatches<'a>) -> Result<Vec<&'a str>, AllocError>
     ensures { IfOk result
@@ -85,7 +85,7 @@ fn keys_asked<'a>(alloc: Global, matches: &ArgMatches<'a>) -> Result<Vec<&'a str
     Ok(keys)
 }
 
-// Puts a key at the end, if its flag is given.
+/// Puts a key at the end, if its flag is given.
 fn push_key<'a>(
     keys: &mut Vec<&'a str>,
     matches: &ArgMatches<'a>,
@@ -102,7 +102,7 @@ fn push_key<'a>(
     Ok(())
 }
 
-// Returns the key, if there is one, and nothing if there are two.
+/// Returns the key, if there is one, and nothing if there are two.
 fn single<'a>(keys: &[&'a str]) -> Option<Option<&'a str>>
     ensures { option_map (option_map (λ key. key.now)) result
         ≡ single (map (λ key. key.now) keys.now) }
@@ -114,8 +114,8 @@ fn single<'a>(keys: &[&'a str]) -> Option<Option<&'a str>>
     }
 }
 
-// Returns whether the words are names and the version is one, or the words are paths and there is
-// no root.
+/// Returns whether the words are names and the version is one, or the words are paths and there is
+/// no root.
 fn is_by_name_or_path(matches: &ArgMatches<'_>) -> bool
     ensures { result ≡ is_by_name_or_path (rows_of (found_of matches.now)) }
 {
@@ -125,7 +125,7 @@ fn is_by_name_or_path(matches: &ArgMatches<'_>) -> bool
     }
 }
 
-// Returns what is asked for with a key.
+/// Returns what is asked for with a key.
 fn words_for(
     alloc: Global,
     matches: &ArgMatches<'_>,

@@ -65,15 +65,15 @@ impl ModprobeWords {
 pub fn read_modprobe(alloc: Global, words: &[Word]) -> Result<Option<ModprobeWords>, AllocError>
     ensures { IfOk result (λ asked. asked ≡ modprobe_request words.now) }
 {
-    let command = command(alloc, "modprobe", &ARGUMENTS)?;
     let texts = texts_of(alloc, words)?;
+    let command = command(alloc, "modprobe", &ARGUMENTS)?;
     match understood(command, texts.as_slice())? {
         Some(matches) => asked(alloc, &matches),
         None => Ok(None),
     }
 }
 
-// Returns what the matches ask for.
+/// Returns what the matches ask for.
 fn asked(alloc: Global, matches: &ArgMatches<'_>) -> Result<Option<ModprobeWords>, AllocError>
     ensures { IfOk result (λ asked. asked ≡ modprobe_asked (rows_of (found_of matches.now))) }
 {
@@ -83,7 +83,7 @@ fn asked(alloc: Global, matches: &ArgMatches<'_>) -> Result<Option<ModprobeWords
     }
 }
 
-// Returns what is asked for by this choice, if the options go with its mode.
+/// Returns what is asked for by this choice, if the options go with its mode.
 fn asked_by(
     alloc: Global,
     matches: &ArgMatches<'_>,
@@ -108,7 +108,7 @@ struct Choice<'a> {
     region: Region,
 }
 
-// Returns the choice that the matches make.
+/// Returns the choice that the matches make.
 #[tactic(auto, unfolding(crate::specs::Modprobe::chosen))]
 fn choice_of<'a>(matches: &ArgMatches<'a>) -> Option<Choice<'a>>
     ensures { option_map choice_parts result ≡ chosen (rows_of (found_of matches.now)) }
@@ -127,7 +127,7 @@ fn choice_of<'a>(matches: &ArgMatches<'a>) -> Option<Choice<'a>>
     }
 }
 
-// Returns the mode that the flags ask for.
+/// Returns the mode that the flags ask for.
 fn mode_asked(matches: &ArgMatches<'_>) -> Option<Mode>
     ensures { result ≡ mode_asked (rows_of (found_of matches.now)) }
 {
@@ -157,7 +157,7 @@ fn mode_by_flags(
     }
 }
 
-// Returns whether the mode has the addresses that it needs, and no option that isn't for it.
+/// Returns whether the mode has the addresses that it needs, and no option that isn't for it.
 fn options_go(matches: &ArgMatches<'_>, mode: Mode) -> bool
     ensures { result ≡ options_go (rows_of (found_of matches.now)) mode }
 {
@@ -171,7 +171,7 @@ fn options_go(matches: &ArgMatches<'_>, mode: Mode) -> bool
     }
 }
 
-// Returns what is asked for, by this choice.
+/// Returns what is asked for, by this choice.
 fn words_for(
     alloc: Global,
     matches: &ArgMatches<'_>,
@@ -215,7 +215,7 @@ struct PlanPaths {
     loaded: Option<PathText>,
 }
 
-// Returns the paths that every mode reads.
+/// Returns the paths that every mode reads.
 fn plan_paths(alloc: Global, matches: &ArgMatches<'_>) -> Result<PlanPaths, AllocError>
     ensures dirname { IfOk result (λ paths. paths.dirname
         ≡ unwrap_or (value_of (codes "dirname") (rows_of (found_of matches.now))) (codes "/")) }
@@ -242,7 +242,7 @@ struct LoadPaths {
     image: Option<PathText>,
 }
 
-// Returns the paths that only a load or a removal needs.
+/// Returns the paths that only a load or a removal needs.
 fn load_paths(alloc: Global, matches: &ArgMatches<'_>) -> Result<LoadPaths, AllocError>
     ensures system_map { IfOk result
         (λ paths. paths.system_map

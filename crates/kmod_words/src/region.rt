@@ -15,7 +15,7 @@ pub(crate) fn region_or_usual(text: Option<&str>) -> Option<Region>
     }
 }
 
-// Returns the region of a text `BASE:SIZE`.
+/// Returns the region of a text `BASE:SIZE`.
 #[tactic(auto, unfolding(crate::specs::Numbers::region_of))]
 fn region_of(text: &[u8]) -> Option<Region>
     ensures { result ≡ region_of text.now }
@@ -26,7 +26,7 @@ fn region_of(text: &[u8]) -> Option<Region>
     Region::new(base, size)
 }
 
-// Returns the number of a text of `0x` and hexadecimal digits.
+/// Returns the number of a text of `0x` and hexadecimal digits.
 #[tactic(auto, unfolding(crate::specs::Numbers::prefixed_hexadecimal))]
 fn prefixed_hexadecimal(text: &[u8]) -> Option<u64>
     ensures { result ≡ prefixed_hexadecimal text.now }

@@ -33,15 +33,15 @@ pub fn read_static_nodes(
 ) -> Result<Option<StaticNodesWords>, AllocError>
     ensures { IfOk result (λ asked. asked ≡ static_nodes_request words.now) }
 {
-    let command = command(alloc, "static-nodes", &ARGUMENTS)?;
     let texts = texts_of(alloc, words)?;
+    let command = command(alloc, "static-nodes", &ARGUMENTS)?;
     match understood(command, texts.as_slice())? {
         Some(matches) => asked(alloc, &matches),
         None => Ok(None),
     }
 }
 
-// Returns what the matches ask for.
+/// Returns what the matches ask for.
 #[tactic(auto, unfolding(crate::specs::StaticNodes::static_nodes_asked))]
 fn asked(alloc: Global, matches: &ArgMatches<'_>) -> Result<Option<StaticNodesWords>, AllocError>
     ensures { IfOk result (λ asked. asked ≡ static_nodes_asked (rows_of (found_of matches.now))) }
@@ -61,7 +61,7 @@ fn asked(alloc: Global, matches: &ArgMatches<'_>) -> Result<Option<StaticNodesWo
     }))
 }
 
-// Returns whether a format is the one that is understood.
+/// Returns whether a format is the one that is understood.
 fn is_devname(format: &str) -> bool
     ensures { result ≡ bytes_eq format.now (codes "devname") }
 {

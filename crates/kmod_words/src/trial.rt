@@ -27,15 +27,15 @@ pub fn read_trial(alloc: Global, words: &[Word]) -> Result<Option<TrialWords>, A
     ensures range { IfOk result
         (λ asked. IfSome asked (λ words. (1 ≤ words.count) × (words.count ≤ 2000))) }
 {
-    let command = command(alloc, "trial", &ARGUMENTS)?;
     let texts = texts_of(alloc, words)?;
+    let command = command(alloc, "trial", &ARGUMENTS)?;
     match understood(command, texts.as_slice())? {
         Some(matches) => Ok(asked(&matches)),
         None => Ok(None),
     }
 }
 
-// Returns what the matches ask for.
+/// Returns what the matches ask for.
 #[tactic(auto, unfolding(crate::specs::Trial::trial_asked))]
 fn asked(matches: &ArgMatches<'_>) -> Option<TrialWords>
     ensures request { result ≡ trial_asked (rows_of (found_of matches.now)) }
@@ -53,7 +53,7 @@ fn asked(matches: &ArgMatches<'_>) -> Option<TrialWords>
     }
 }
 
-// Returns the number that the word of a name states.
+/// Returns the number that the word of a name states.
 fn number_of(matches: &ArgMatches<'_>, name: &str, most: usize) -> Option<u64>
     ensures { result ≡ number_of most name.now (rows_of (found_of matches.now)) }
 {

@@ -7,7 +7,7 @@ use Rattle.std.specs.Option.{option_or, option_map_or}
 use Rattle.std.proofs.lemmas.List.{map-append}
 use Rattle.elf_format.specs.declared.section.TheConstants.{PAGE}
 use Rattle.km_names.specs.First.{first}
-use Rattle.module_facts.specs.declared.facts.Export.{Export as FactsExport}
+use Rattle.module_symbols.specs.declared.exports.Export.{Export as FactsExport}
 use Rattle.module_facts.specs.declared.module.Module.{Module}
 use Rattle.symbol_binding.specs.Symbols.{Export, Need, Face}
 use Rattle.provider_rel.specs.Faces.{export_of_facts}

@@ -7,8 +7,8 @@ use Rattle.std.proofs.lemmas.Bool.{cases_Bool}
 use Rattle.std.proofs.lemmas.Option.{none-some}
 use Rattle.km_names.specs.First.{first}
 use Rattle.module_facts.specs.declared.facts.Facts.{Facts}
-use Rattle.module_facts.specs.declared.facts.Need.{Need as FactsNeed}
-use Rattle.module_facts.specs.declared.facts.Export.{Export as FactsExport}
+use Rattle.module_symbols.specs.declared.needs.Need.{Need as FactsNeed}
+use Rattle.module_symbols.specs.declared.exports.Export.{Export as FactsExport}
 use Rattle.symbol_binding.specs.Symbols.{Export, Need, Face, Kernel}
 use Rattle.symbol_binding.specs.Provider.{Owner, ByKernel, ByModule, Provided, export_under, of_one}
 use Rattle.symbol_binding.specs.Provider.{face_exports}

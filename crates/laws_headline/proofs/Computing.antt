@@ -9,13 +9,13 @@ use Rattle.km_names.specs.Statements as km_names_statements
 use Rattle.km_names.specs.Strings as km_names_strings
 use Rattle.km_course.specs.Course.{◌>>=◌}
 use Rattle.km_course.specs.Course as km_course_course
-use Rattle.module_facts.specs.Contents as module_facts_contents
-use Rattle.module_facts.specs.Exports as module_facts_exports
+use Rattle.module_symbols.specs.Contents as module_facts_contents
+use Rattle.module_symbols.specs.Exports as module_facts_exports
 use Rattle.module_facts.specs.Facts as module_facts_facts
 use Rattle.module_facts.specs.Faults as module_facts_faults
-use Rattle.module_facts.specs.Needs as module_facts_needs
-use Rattle.module_facts.specs.Roles as module_facts_roles
-use Rattle.module_facts.specs.Versions as module_facts_versions
+use Rattle.module_symbols.specs.Needs as module_facts_needs
+use Rattle.module_symbols.specs.Roles as module_facts_roles
+use Rattle.module_symbols.specs.Versions as module_facts_versions
 use Rattle.elf_object.specs.Object as elf_object_object
 use Rattle.elf_object.specs.Places as elf_object_places
 use Rattle.elf_sections.specs.Sections as elf_sections_sections

@@ -15,7 +15,7 @@ use Rattle.index_format.specs.Holds.{Holds}
 use Rattle.index_write.proofs.StorableMaps.{Fits}
 use Rattle.index_write.proofs.VisibleWords.{both, characters, graphic-key, graphic-text, key-of}
 use Rattle.index_write.proofs.VisibleWords.{normal-key}
-use Rattle.module_facts.specs.declared.facts.Export.{Export}
+use Rattle.module_symbols.specs.declared.exports.Export.{Export}
 use Rattle.module_facts.specs.declared.facts.Facts.{Facts}
 use Rattle.provider_rel.specs.Faces.{modules_of}
 use Rattle.provider_rel.specs.Relation.{dependencies}

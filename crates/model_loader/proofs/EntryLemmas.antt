@@ -7,8 +7,8 @@ use Rattle.std.specs.Option.{option_map_or}
 use Rattle.std.proofs.lemmas.List.FromFn.{get_or-map-range_with_len, length-map-range_with_len}
 use Rattle.elf_object.specs.Object.{FileObject}
 use Rattle.module_facts.specs.declared.facts.Facts.{Facts}
-use Rattle.module_facts.specs.declared.facts.Need.{Need}
-use Rattle.module_facts.specs.declared.facts.Export.{Export}
+use Rattle.module_symbols.specs.declared.needs.Need.{Need}
+use Rattle.module_symbols.specs.declared.exports.Export.{Export}
 use Rattle.module_facts.specs.declared.module.Module.{Module}
 use Rattle.symbol_binding.specs.Needs.{is_seen}
 use Rattle.image_layout.specs.Symbols.{address, addresses}

@@ -15,8 +15,8 @@ use Rattle.std.proofs.lemmas.List.Elements.{All-map}
 use Rattle.std.proofs.lemmas.List.Folds.{list_any-append}
 use Rattle.std.proofs.lemmas.Map.Keys.{IsDistinct-push, IsDistinct-head, IsDistinct-tail}
 use Rattle.km_names.specs.First.{first}
-use Rattle.module_facts.specs.declared.facts.Need.{Need as FactsNeed}
-use Rattle.module_facts.specs.declared.facts.Export.{Export as FactsExport}
+use Rattle.module_symbols.specs.declared.needs.Need.{Need as FactsNeed}
+use Rattle.module_symbols.specs.declared.exports.Export.{Export as FactsExport}
 use Rattle.module_facts.specs.declared.module.Module.{Module}
 use Rattle.symbol_binding.specs.Symbols.{Export, Need, Face}
 use Rattle.kernel_exports.specs.declared.kernel.Kernel.{Kernel as KernelTable}

@@ -5,7 +5,7 @@ use Rattle.std.specs.Prelude.{find, option_map}
 use Rattle.std.specs.Str.{bytes_eq}
 use Rattle.std.proofs.lemmas.Slice.Eq.{bytes_eq-Decides}
 use Rattle.module_facts.specs.declared.facts.Facts.{Facts}
-use Rattle.module_facts.specs.declared.facts.Need.{Need as FactsNeed}
+use Rattle.module_symbols.specs.declared.needs.Need.{Need as FactsNeed}
 use Rattle.model_loader.specs.declared.standing.ExportTable.{ExportTable}
 use Rattle.model_loader.specs.declared.needs.Check.{Check}
 use Rattle.model_loader.specs.Machine.{Machine, bound_export, facts_face, facts_need}

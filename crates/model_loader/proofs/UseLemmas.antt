@@ -13,7 +13,7 @@ use Rattle.std.proofs.lemmas.List.{map-append}
 use Rattle.std.proofs.lemmas.List.Concat.{flat_map-append}
 use Rattle.std.proofs.lemmas.List.Quantifiers.{all_pairs_remove}
 use Rattle.km_names.specs.First.{first}
-use Rattle.module_facts.specs.declared.facts.Need.{Need as FactsNeed}
+use Rattle.module_symbols.specs.declared.needs.Need.{Need as FactsNeed}
 use Rattle.module_facts.specs.declared.module.Module.{Module}
 use Rattle.symbol_binding.specs.Symbols.{Export, Need}
 use Rattle.kernel_exports.specs.declared.kernel.KernelExport.{KernelExport}

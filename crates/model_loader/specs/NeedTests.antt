@@ -3,8 +3,8 @@
 use Rattle.std.specs.Prelude.{ℕ, ◌==◌, Bool, List, find, Option, option_map, unwrap_or}
 use Rattle.std.specs.Prelude.{if◌then◌else◌}
 use Rattle.std.specs.Option.{option_map_or}
-use Rattle.module_facts.specs.declared.facts.Export.{Export as FactsExport}
-use Rattle.module_facts.specs.declared.facts.Need.{Need as FactsNeed}
+use Rattle.module_symbols.specs.declared.exports.Export.{Export as FactsExport}
+use Rattle.module_symbols.specs.declared.needs.Need.{Need as FactsNeed}
 use Rattle.module_facts.specs.declared.facts.Facts.{Facts}
 use Rattle.model_loader.specs.declared.standing.ExportTable.{ExportTable}
 use Rattle.model_loader.specs.Machine.{facts_face, facts_need, standing_export}

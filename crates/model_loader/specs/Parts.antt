@@ -1,7 +1,7 @@
 -- The parts of an entry and of a machine, as the code makes them.
 -- It belongs to the code: no public meaning rests on it.
 use Rattle.std.specs.Prelude.{◌≡◌, ℕ, List, length, map, slice_index}
-use Rattle.module_facts.specs.declared.facts.Export.{Export as FactsExport}
+use Rattle.module_symbols.specs.declared.exports.Export.{Export as FactsExport}
 use Rattle.module_facts.specs.declared.module.Module.{Module}
 use Rattle.model_loader.specs.declared.entry.PlacedExport.{PlacedExport}
 use Rattle.model_loader.specs.declared.entry.Entry.{Entry}

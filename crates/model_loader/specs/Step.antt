@@ -7,8 +7,8 @@ use Rattle.std.specs.List.{range_with_len}
 use Rattle.std.specs.Option.{option_map_or}
 use Rattle.elf_format.specs.declared.section.TheConstants.{PAGE}
 use Rattle.km_names.specs.First.{first}
-use Rattle.module_facts.specs.declared.facts.Export.{Export as FactsExport}
-use Rattle.module_facts.specs.declared.facts.Need.{Need as FactsNeed}
+use Rattle.module_symbols.specs.declared.exports.Export.{Export as FactsExport}
+use Rattle.module_symbols.specs.declared.needs.Need.{Need as FactsNeed}
 use Rattle.module_facts.specs.declared.facts.Facts.{Facts}
 use Rattle.module_facts.specs.declared.module.Module.{Module}
 use Rattle.symbol_binding.specs.Needs.{NeedTest, is_seen, is_missing, is_hidden, is_other_version}

@@ -3,7 +3,7 @@
 ghost use Rattle.std.specs.Prelude.{◌≡◌, ◌<◌, All, IfOk, map, replicate};
 ghost use Rattle.std.specs.List.{range_with_len};
 ghost use Rattle.model_loader.specs.NeedTests.{given_by, kept_address};
-ghost use Rattle.module_facts.specs.declared.facts.Need.{Need};
+ghost use Rattle.module_symbols.specs.declared.needs.Need.{Need};
 
 use crate::standing::ExportTable;
 use module_facts::{Facts, Need};

@@ -1,7 +1,7 @@
 // The parts of the entry of a module.
 
 ghost use Rattle.std.specs.Prelude.{◌≡◌, ◌<◌, All, IfOk, Some, length, map};
-ghost use Rattle.module_facts.specs.declared.facts.Export.{Export};
+ghost use Rattle.module_symbols.specs.declared.exports.Export.{Export};
 ghost use Rattle.model_loader.specs.Parts.{placed_by};
 ghost use Rattle.model_loader.specs.Standing.{export_pair, named_pair};
 ghost use Rattle.model_loader.specs.Step.{bound_need};

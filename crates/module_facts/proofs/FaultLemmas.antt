@@ -7,7 +7,7 @@ use Rattle.elf_object.specs.Object.{FileObject, file_object, object_fault}
 use Rattle.elf_sections.specs.Shape.{fault_if}
 use Rattle.module_facts.specs.declared.facts.Facts.{Facts}
 use Rattle.module_facts.specs.declared.fault.ModuleFault.TheVariants.{BadVersions}
-use Rattle.module_facts.specs.Exports.{exports_of}
+use Rattle.module_symbols.specs.Exports.{exports_of}
 use Rattle.module_facts.specs.Facts.{object_facts}
 use Rattle.module_facts.specs.Module.{IsModule}
 use Rattle.module_facts.specs.Faults.{fact_fault, facts_tests, has_bad_versions, has_good_names}

@@ -15,23 +15,23 @@ use Rattle.km_names.specs.First.{first}
 use Rattle.elf_object.specs.Object.{FileObject}
 use Rattle.elf_sections.specs.Shape.{fault_if}
 use Rattle.elf_object.specs.declared.symbol.Symbol.{Symbol}
-use Rattle.module_facts.specs.declared.facts.Export.{Export}
+use Rattle.module_symbols.specs.declared.exports.Export.{Export}
 use Rattle.module_facts.specs.declared.facts.Facts.{Facts}
-use Rattle.module_facts.specs.declared.facts.Need.{Need}
+use Rattle.module_symbols.specs.declared.needs.Need.{Need}
 use Rattle.module_facts.specs.declared.fault.ModuleFault.{ModuleFault}
 use Rattle.module_facts.specs.declared.fault.ModuleFault.TheVariants.{BadName, BadVersions}
 use Rattle.module_facts.specs.declared.fault.ModuleFault.TheVariants.{ExportTwice, ExportUndefined}
 use Rattle.module_facts.specs.declared.fault.ModuleFault.TheVariants.{NameTooLong}
-use Rattle.module_facts.specs.declared.role.Role.TheVariants.{Definition, Export as OfExport}
-use Rattle.module_facts.specs.Roles.{first_symbol, stated_name}
-use Rattle.module_facts.specs.Exports.{export_of, exports_of}
-use Rattle.module_facts.specs.Needs.{is_need, need_of, needs_of}
-use Rattle.module_facts.specs.Versions.{version_list}
+use Rattle.module_symbols.specs.declared.role.Role.TheVariants.{Definition, Export as OfExport}
+use Rattle.module_symbols.specs.Roles.{first_symbol, stated_name}
+use Rattle.module_symbols.specs.Exports.{export_of, exports_of}
+use Rattle.module_symbols.specs.Needs.{is_need, need_of, needs_of}
+use Rattle.module_symbols.specs.Versions.{version_list}
 use Rattle.module_facts.specs.Facts.{object_facts}
 use Rattle.module_facts.specs.Faults.{facts_tests, has_bad_versions, has_good_names, is_twice}
 use Rattle.module_facts.specs.Faults.{is_undefined, space_test, twice_test, undefined_test}
 use Rattle.module_facts.specs.Module.{IsSound}
-use Rattle.module_facts.proofs.SymbolLemmas.{first_symbol-within}
+use Rattle.module_symbols.proofs.SymbolLemmas.{first_symbol-within}
 
 -- ---- tests that pass
 

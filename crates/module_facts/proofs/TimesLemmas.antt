@@ -6,7 +6,7 @@ use Rattle.std.proofs.lemmas.Bool.{lt-ltb}
 use Rattle.std.proofs.lemmas.List.{take_more}
 use Rattle.std.proofs.lemmas.List.Sums.{sum_by_push}
 use Rattle.std.specs.Str.{bytes_eq}
-use Rattle.module_facts.specs.declared.facts.Export.{Export}
+use Rattle.module_symbols.specs.declared.exports.Export.{Export}
 use Rattle.module_facts.specs.declared.seen.Times.{Times}
 use Rattle.module_facts.specs.declared.seen.Times.TheVariants.{Once, More}
 use Rattle.module_facts.specs.Times.{is_repeated, seen, times}

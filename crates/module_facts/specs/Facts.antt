@@ -8,9 +8,9 @@ use Rattle.km_names.specs.Path.{module_name}
 use Rattle.elf_object.specs.Object.{FileObject, file_object}
 use Rattle.modinfo_fields.specs.Fields.{fields_of, values_of_key}
 use Rattle.module_facts.specs.declared.facts.Facts.{Facts}
-use Rattle.module_facts.specs.Contents.{modinfo_bytes}
-use Rattle.module_facts.specs.Exports.{exports_of}
-use Rattle.module_facts.specs.Needs.{needs_of}
+use Rattle.module_symbols.specs.Contents.{modinfo_bytes}
+use Rattle.module_symbols.specs.Exports.{exports_of}
+use Rattle.module_symbols.specs.Needs.{needs_of}
 
 -- The values that the section `.modinfo` has for a key.
 unfoldable pub texts_of : FileObject → List ℕ → List (List ℕ)

@@ -9,18 +9,18 @@ use Rattle.km_names.specs.First.{first}
 use Rattle.km_names.specs.Path.{is_compressed}
 use Rattle.elf_object.specs.Object.{FileObject, file_object, object_fault}
 use Rattle.elf_sections.specs.Shape.{fault_if}
-use Rattle.module_facts.specs.declared.facts.Export.{Export}
-use Rattle.module_facts.specs.declared.facts.Need.{Need}
+use Rattle.module_symbols.specs.declared.exports.Export.{Export}
+use Rattle.module_symbols.specs.declared.needs.Need.{Need}
 use Rattle.module_facts.specs.declared.facts.Facts.{Facts}
 use Rattle.module_facts.specs.declared.fault.ModuleFault.{ModuleFault}
 use Rattle.module_facts.specs.declared.fault.ModuleFault.TheVariants.{Compressed, Object}
 use Rattle.module_facts.specs.declared.fault.ModuleFault.TheVariants.{NameTooLong, BadName}
 use Rattle.module_facts.specs.declared.fault.ModuleFault.TheVariants.{ExportTwice, ExportUndefined}
 use Rattle.module_facts.specs.declared.fault.ModuleFault.TheVariants.{BadVersions, BadNamespace}
-use Rattle.module_facts.specs.declared.role.Role.TheVariants.{Version, Space, Definition}
-use Rattle.module_facts.specs.Roles.{first_symbol, symbol_of}
-use Rattle.module_facts.specs.Versions.{is_bad_list}
-use Rattle.module_facts.specs.Exports.{given_space, given_version}
+use Rattle.module_symbols.specs.declared.role.Role.TheVariants.{Version, Space, Definition}
+use Rattle.module_symbols.specs.Roles.{first_symbol, symbol_of}
+use Rattle.module_symbols.specs.Versions.{is_bad_list}
+use Rattle.module_symbols.specs.Exports.{given_space, given_version}
 use Rattle.module_facts.specs.Facts.{object_facts}
 
 -- Whether the names of the module, its exports and its needs can be words of a line: none is empty,

@@ -1,12 +1,6 @@
-pub mod Contents
-pub mod Roles
-pub mod SymbolTables
-pub mod Versions
-pub mod Listed
-pub mod Exports
-pub mod Needs
 pub mod Facts
 pub mod Faults
 pub mod FaultText
 pub mod Module
 pub mod Times
+pub mod Texts

@@ -4,7 +4,7 @@ use Rattle.std.specs.Prelude.{◌≡◌, ℕ, zero, suc, Bool, true, false, List
 use Rattle.std.specs.List.{count_by}
 use Rattle.std.specs.HashMap.{get_by}
 use Rattle.std.specs.Str.{bytes_eq}
-use Rattle.module_facts.specs.declared.facts.Export.{Export}
+use Rattle.module_symbols.specs.declared.exports.Export.{Export}
 use Rattle.module_facts.specs.declared.seen.SeenNames.{SeenNames}
 use Rattle.module_facts.specs.declared.seen.Times.{Times}
 use Rattle.module_facts.specs.declared.seen.Times.TheVariants.{Once, More}

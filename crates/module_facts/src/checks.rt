@@ -5,19 +5,18 @@ ghost use Rattle.std.specs.List.{list_all, list_any};
 ghost use Rattle.km_names.specs.Ascii.{is_graphic};
 ghost use Rattle.km_names.specs.First.{first};
 ghost use Rattle.module_facts.specs.Times.{HasSeen};
-ghost use Rattle.module_facts.specs.SymbolTables.{AreTablesFor, HasTables};
+ghost use Rattle.module_symbols.specs.SymbolTables.{AreTablesFor, HasTables};
 ghost use Rattle.module_facts.specs.Faults.{facts_tests, has_bad_space, has_bad_version};
 ghost use Rattle.module_facts.specs.Faults.{has_bad_versions, has_good_names, is_twice};
 ghost use Rattle.module_facts.specs.Faults.{is_undefined, space_test, twice_test, undefined_test};
 
-use crate::exports::{given_space, given_version};
-use crate::role::Role;
 use crate::seen::{SeenNames, Times};
-use crate::tables::{SymbolTables, symbol_of};
-use crate::versions::is_bad_list;
-use crate::{Export, Facts, ModuleFault, Need};
+use crate::{Facts, ModuleFault};
 use elf_object::ObjectView;
 use km_names::{Name, is_graphic};
+use module_symbols::{
+    Export, Need, Role, SymbolTables, given_space, given_version, is_bad_list, symbol_of,
+};
 use std::alloc::{AllocError, Global};
 
 /// The greatest length of a module's name in bytes: the kernel's MODULE_NAME_LEN, less the NUL.

@@ -6,21 +6,17 @@ ghost use Rattle.km_names.specs.First.{first};
 ghost use Rattle.km_names.specs.Limit.{file_limit};
 ghost use Rattle.module_facts.specs.Module.{IsSound};
 ghost use Rattle.elf_object.specs.Object.{file_object};
-ghost use Rattle.module_facts.specs.SymbolTables.{AreTablesFor};
-ghost use Rattle.module_facts.specs.Exports.{exports_of};
+ghost use Rattle.module_symbols.specs.SymbolTables.{AreTablesFor};
+ghost use Rattle.module_symbols.specs.Exports.{exports_of};
 ghost use Rattle.module_facts.specs.Facts.{facts_of, object_facts, texts_of};
 ghost use Rattle.module_facts.specs.Faults.{fact_fault, facts_tests};
 
 use crate::checks::check_facts;
-use crate::contents::modinfo_bytes;
-use crate::exports::exports_by;
-use crate::needs::read_needs;
-use crate::tables::{SymbolTables, tables_of};
-use crate::texts::{is_free, names_of};
+use crate::texts::{StatedTexts, is_free, read_texts};
 use crate::{Facts, Module, ModuleFault};
 use elf_object::{Object, ObjectView};
 use km_names::{Blob, PathText, is_compressed, module_name};
-use modinfo_fields::field_values;
+use module_symbols::{SymbolTables, exports_by, modinfo_bytes, read_needs, tables_of};
 use std::alloc::{AllocError, Global};
 
 /// Returns the facts of the module at a path, by its object and the object's tables, if it exports
@@ -35,17 +31,25 @@ fn facts_by(
     requires { AreTablesFor (exports_of object.now) object.now (option_copied tables) }
     ensures { IfOk result (λ facts. facts ≡ object_facts path.now object.now) }
 {
-    let texts = modinfo_bytes(object);
-    let licenses = field_values(alloc, texts, b"license")?;
+    let stated_path = PathText::from_slice(alloc, path.as_bytes())?;
+    let name = module_name(alloc, path)?;
+    let exports = exports_by(alloc, object, tables)?;
+    let needs = read_needs(alloc, object)?;
+    let StatedTexts {
+        licenses,
+        aliases,
+        softdeps,
+        imports,
+    } = read_texts(alloc, modinfo_bytes(object))?;
     Ok(Facts {
-        path: PathText::from_slice(alloc, path.as_bytes())?,
-        name: module_name(alloc, path)?,
-        exports: exports_by(alloc, object, tables)?,
-        needs: read_needs(alloc, object)?,
-        aliases: field_values(alloc, texts, b"alias")?,
-        softdeps: field_values(alloc, texts, b"softdep")?,
+        path: stated_path,
+        name,
+        exports,
+        needs,
+        aliases,
+        softdeps,
         free: is_free(&licenses),
-        imports: names_of(alloc, texts, b"import_ns")?,
+        imports,
     })
 }
 

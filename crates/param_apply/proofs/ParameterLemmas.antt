@@ -10,7 +10,7 @@ use Rattle.elf_sections.specs.declared.section.Section.{Section}
 use Rattle.elf_object.specs.Object.{FileObject}
 use Rattle.elf_sections.specs.Sections.{bytes_of}
 use Rattle.elf_sections.specs.Shape.{content}
-use Rattle.module_facts.specs.Contents.{modinfo_bytes, named_bytes, named_section}
+use Rattle.module_symbols.specs.Contents.{modinfo_bytes, named_bytes, named_section}
 use Rattle.image_layout.proofs.PieceLemmas.{item-at}
 
 -- A section without bytes in the file.

@@ -7,7 +7,7 @@ use Rattle.std.specs.List.{slice_split, before_first, after_first, filter_map, l
 use Rattle.std.specs.Str.{bytes_eq}
 use Rattle.elf_object.specs.Object.{FileObject}
 use Rattle.km_names.specs.Path.{underscored}
-use Rattle.module_facts.specs.Contents.{modinfo_bytes}
+use Rattle.module_symbols.specs.Contents.{modinfo_bytes}
 use Rattle.modinfo_fields.specs.Fields.{fields_of, is_text, values_of_key}
 use Rattle.param_apply.specs.declared.kind.ParamType.{ParamType}
 use Rattle.param_apply.specs.Kinds.{kind_of}

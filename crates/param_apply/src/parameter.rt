@@ -3,7 +3,7 @@
 ghost use Rattle.std.specs.Prelude.{◌≡◌, map, slice_get, Some, IfOk, option_and_then};
 ghost use Rattle.name_table.specs.NameTable.{IsTableOf, place_of};
 ghost use Rattle.km_names.specs.Path.{underscored};
-ghost use Rattle.module_facts.specs.Contents.{modinfo_bytes};
+ghost use Rattle.module_symbols.specs.Contents.{modinfo_bytes};
 ghost use Rattle.param_apply.specs.Kinds.{kind_of};
 ghost use Rattle.param_apply.specs.Words.{kind_named, number_named, parameter, text_name};
 ghost use Rattle.param_apply.specs.Words.{text_type, type_texts};
@@ -35,7 +35,7 @@ impl<'a> Model for ParamRef<'a> {
 }
 
 /// Returns the bytes of the section `.modinfo`.
-#[tactic(auto, unfolding(module_facts::specs::Contents::modinfo_bytes, module_facts::specs::Contents::named_bytes, module_facts::specs::Contents::named_section))]
+#[tactic(auto, unfolding(module_symbols::specs::Contents::modinfo_bytes, module_symbols::specs::Contents::named_bytes, module_symbols::specs::Contents::named_section))]
 fn texts_section(object: &Object) -> &[u8]
     ensures { result.now ≡ modinfo_bytes object.now }
 {

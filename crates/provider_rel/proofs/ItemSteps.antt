@@ -7,7 +7,7 @@ use Rattle.std.proofs.lemmas.List.{get_or-map, length-map, map-append, take_more
 use Rattle.std.proofs.lemmas.List.Sums.{position_or_len_is}
 use Rattle.std.specs.List.{flat_map}
 use Rattle.std.specs.Str.{bytes_eq}
-use Rattle.module_facts.specs.declared.facts.Export.{Export as StatedExport}
+use Rattle.module_symbols.specs.declared.exports.Export.{Export as StatedExport}
 use Rattle.module_facts.specs.declared.facts.Facts.{Facts}
 use Rattle.symbol_binding.specs.Symbols.{Export, Module}
 use Rattle.symbol_binding.specs.Provider.{ByModule, Provided}

@@ -9,7 +9,7 @@ use Rattle.std.proofs.Math.Path.{fun_ext}
 use Rattle.std.proofs.lemmas.List.{get_or-map, length-map, map-append}
 use Rattle.std.proofs.lemmas.List.Elements.{All-nil, All-cons}
 use Rattle.name_table.specs.NameTable.{Table, IsTableOf, place_of}
-use Rattle.module_facts.specs.declared.facts.Need.{Need as StatedNeed}
+use Rattle.module_symbols.specs.declared.needs.Need.{Need as StatedNeed}
 use Rattle.module_facts.specs.declared.facts.Facts.{Facts}
 use Rattle.relation_order.specs.Sets.{has, goes}
 use Rattle.relation_order.specs.Search.{Inside}

@@ -1,7 +1,7 @@
 -- The facts of modules and the tables of kernels, as symbol binding sees them.
 use Rattle.std.specs.Prelude.{List, map}
-use Rattle.module_facts.specs.declared.facts.Export.{Export as StatedExport}
-use Rattle.module_facts.specs.declared.facts.Need.{Need as StatedNeed}
+use Rattle.module_symbols.specs.declared.exports.Export.{Export as StatedExport}
+use Rattle.module_symbols.specs.declared.needs.Need.{Need as StatedNeed}
 use Rattle.module_facts.specs.declared.facts.Facts.{Facts}
 use Rattle.symbol_binding.specs.Symbols.{Export, Need, Face, Module, Kernel as SeenKernel}
 use Rattle.kernel_exports.specs.declared.kernel.KernelExport.{KernelExport}

@@ -12,8 +12,8 @@ use Rattle.symbol_binding.specs.Unmet.{owner_path}
 use Rattle.symbol_binding.specs.declared.unbound.Unbound.{Unbound}
 use Rattle.symbol_binding.specs.declared.unbound.Unbound.TheVariants.{Double}
 use Rattle.name_table.specs.NameTable.{Table, place_of}
-use Rattle.module_facts.specs.declared.facts.Export.{Export as StatedExport}
-use Rattle.module_facts.specs.declared.facts.Need.{Need as StatedNeed}
+use Rattle.module_symbols.specs.declared.exports.Export.{Export as StatedExport}
+use Rattle.module_symbols.specs.declared.needs.Need.{Need as StatedNeed}
 use Rattle.kernel_exports.specs.declared.kernel.KernelExport.{KernelExport}
 use Rattle.provider_rel.specs.declared.provider.Provider.{Provider}
 use Rattle.provider_rel.specs.declared.provider.Provider.TheVariants.{Nobody, Kernel as TheKernel}

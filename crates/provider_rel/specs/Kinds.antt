@@ -3,7 +3,7 @@
 use Rattle.std.specs.Prelude.{ℕ, Bool, List, [], ◌∷◌, Option, if◌then◌else◌}
 use Rattle.std.specs.List.{flat_map}
 use Rattle.module_facts.specs.declared.facts.Facts.{Facts}
-use Rattle.module_facts.specs.declared.facts.Need.{Need as StatedNeed}
+use Rattle.module_symbols.specs.declared.needs.Need.{Need as StatedNeed}
 use Rattle.name_table.specs.NameTable.{Table, place_of}
 use Rattle.symbol_binding.specs.Needs.{NeedTest, is_missing, is_hidden, is_other_version, is_barred}
 use Rattle.symbol_binding.specs.declared.unbound.Unbound.{Unbound}

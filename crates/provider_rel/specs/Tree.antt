@@ -2,8 +2,8 @@
 use Rattle.std.specs.Prelude.{◌≡◌, ◌≤◌, ◌==◌, not, List, length, All, AllPairs, IsTrue}
 use Rattle.std.specs.List.{list_any}
 use Rattle.km_names.specs.Ascii.{is_graphic}
-use Rattle.module_facts.specs.declared.facts.Export.{Export}
-use Rattle.module_facts.specs.declared.facts.Need.{Need}
+use Rattle.module_symbols.specs.declared.exports.Export.{Export}
+use Rattle.module_symbols.specs.declared.needs.Need.{Need}
 use Rattle.module_facts.specs.declared.facts.Facts.{Facts}
 
 -- A module of a tree. It exports no name twice. Its path, its name, and the names that it exports

@@ -1,7 +1,7 @@
 use Rattle.std.proofs.Common.{sym, ap, ◌∙◌, length, map, arith}
 use Rattle.std.proofs.lemmas.List.{take_all}
 use Rattle.std.proofs.lemmas.Simd.{map-map}
-use Rattle.module_facts.specs.declared.facts.Export.{Export}
+use Rattle.module_symbols.specs.declared.exports.Export.{Export}
 use Rattle.depmod_core.specs.declared.stated.StatedKind.TheVariants.{Symbol}
 use Rattle.depmod_core.specs.Kinds.{statement}
 use Rattle.depmod_core.proofs.stated.symbols.Goals as goal

@@ -1,5 +1,5 @@
 use Rattle.std.proofs.Common.{◌≡◌, ◌<◌, ◌-◌, arith, length, get_or, subst, sym, ap}
-use Rattle.module_facts.specs.declared.facts.Need.{Need}
+use Rattle.module_symbols.specs.declared.needs.Need.{Need}
 use Rattle.model_loader.proofs.GivenLemmas.{given-none, given-next, given-all}
 use Rattle.model_loader.proofs.given.given_addresses.Goals as goal
 

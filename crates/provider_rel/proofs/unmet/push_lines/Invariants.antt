@@ -1,6 +1,6 @@
 use Rattle.std.proofs.Common.{◌≡◌, ◌++◌, take}
 use Rattle.std.specs.List.{flat_map}
-use Rattle.module_facts.specs.declared.facts.Need.{Need as StatedNeed}
+use Rattle.module_symbols.specs.declared.needs.Need.{Need as StatedNeed}
 use Rattle.name_table.specs.NameTable.{place_of}
 use Rattle.provider_rel.specs.Items.{item_under}
 use Rattle.provider_rel.specs.Kinds.{line_if}

@@ -3,8 +3,8 @@ use Rattle.std.proofs.Common.{IsTrue, sym, ap, subst, ◌∙◌, rules}
 use Rattle.std.proofs.lemmas.List.Elements.{All-nil, All-cons}
 use Rattle.std.specs.List.{list_any}
 use Rattle.km_names.specs.Ascii.{is_graphic}
-use Rattle.module_facts.specs.declared.facts.Export.{Export}
-use Rattle.module_facts.specs.declared.facts.Need.{Need}
+use Rattle.module_symbols.specs.declared.exports.Export.{Export}
+use Rattle.module_symbols.specs.declared.needs.Need.{Need}
 use Rattle.test_relations.proofs.TreeSteps.{no-pair}
 use Rattle.test_relations.proofs.kernels.needing.Goals as goal
 

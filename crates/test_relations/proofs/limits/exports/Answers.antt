@@ -1,6 +1,6 @@
 use Rattle.std.specs.Prelude.{IsTrue}
 use Rattle.km_names.specs.Ascii.{is_graphic}
-use Rattle.module_facts.specs.declared.facts.Export.{Export}
+use Rattle.module_symbols.specs.declared.exports.Export.{Export}
 use Rattle.test_relations.proofs.LetterSteps.{alone, graphic-as}
 use Rattle.test_relations.proofs.limits.exports.Goals as goal
 

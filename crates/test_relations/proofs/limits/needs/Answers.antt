@@ -1,7 +1,7 @@
 use Rattle.std.proofs.Common.{arith}
 use Rattle.std.specs.Prelude.{IsTrue}
 use Rattle.km_names.specs.Ascii.{is_graphic}
-use Rattle.module_facts.specs.declared.facts.Need.{Need}
+use Rattle.module_symbols.specs.declared.needs.Need.{Need}
 use Rattle.test_relations.proofs.LetterSteps.{pushed, graphic-as}
 use Rattle.test_relations.proofs.limits.needs.Goals as goal
 

@@ -1,6 +1,6 @@
 use Rattle.std.proofs.Common.{ℕ, List, IsTrue}
 use Rattle.km_names.specs.Ascii.{is_graphic}
-use Rattle.module_facts.specs.declared.facts.Need.{Need}
+use Rattle.module_symbols.specs.declared.needs.Need.{Need}
 use Rattle.test_surface.proofs.TreeSteps.{alone}
 use Rattle.test_surface.proofs.relation.one_need.Goals as goal
 

@@ -1,6 +1,6 @@
 use Rattle.std.proofs.Common.{◌∙◌, inr, ap, Some, sym}
 use Rattle.std.specs.Prelude.{option_map}
-use Rattle.module_facts.specs.declared.facts.Need.{Need as FactsNeed}
+use Rattle.module_symbols.specs.declared.needs.Need.{Need as FactsNeed}
 use Rattle.model_loader.specs.NeedTests.{fault_of}
 use Rattle.model_loader.proofs.StandingLemmas.{need_test-is}
 use Rattle.model_loader.proofs.needs.Check.check.Goals as goal

@@ -1,0 +1,5 @@
+pub mod NumberLemmas
+pub mod EntryLemmas
+pub mod ListLemmas
+pub mod SymbolLemmas
+pub mod VersionLemmas

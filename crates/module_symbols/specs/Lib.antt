@@ -1,0 +1,7 @@
+pub mod Contents
+pub mod Roles
+pub mod SymbolTables
+pub mod Versions
+pub mod Listed
+pub mod Exports
+pub mod Needs
