@@ -23,11 +23,19 @@ pub(crate) struct Stated<'a> {
     alias: &'a [u8],
 }
 
-/// Returns whether a field states an alias that is a word of visible characters.
-fn is_alias(parts: Parts) -> bool
-    ensures { result ≡ is_alias (field_shown parts.entry) }
+/// Returns the map of modules.builtin.alias.bin, by the bytes of a modules.builtin.modinfo. An
+/// alias can be used if it is a word of visible characters and has a normal form. Each such alias
+/// leads by its normal form to the name of the module that states it. The priority is the place of
+/// the module in the order that modules are first seen in. modprobe.d(5), "alias".
+pub fn builtin_aliases(alloc: Global, bytes: &[u8]) -> Result<KeyMap, AllocError>
+    requires { length bytes.now ≤ file_limit }
+    ensures { IfOk result (λ made. made ≡ alias_map bytes.now) }
 {
-    parts.key == b"alias".as_slice() && is_graphic(parts.value)
+    let mut list = stated_aliases(alloc, bytes)?;
+    // A value goes behind the others of its key if they don't follow its module, so no list of
+    // values is moved.
+    list.sort_by_key(|stated| stated.place)?;
+    map_of_aliases(alloc, &list)
 }
 
 /// Reads the aliases of a file, in order.
@@ -58,20 +66,6 @@ fn stated_aliases(alloc: Global, bytes: &[u8]) -> Result<Vec<Stated<'_>>, AllocE
     Ok(list)
 }
 
-/// Puts the value of an alias into the map, if the alias has a normal form.
-fn add_alias(alloc: Global, key_map: &mut KeyMap, stated: Stated) -> Result<(), AllocError>
-    requires { IsWord stated }
-    ensures { OnOk result
-        (key_map.new
-        ≡ with_values key_map.old (option_to_list (value_at (alias_shown stated.entry)))) }
-{
-    if let Some(key) = normal_alias(alloc, stated.alias)? {
-        let name = underscored(alloc, stated.module)?;
-        key_map.add_owned(key.into_vec(), stated.place, name.into_vec())?;
-    }
-    Ok(())
-}
-
 /// Makes the map of some aliases.
 fn map_of_aliases(alloc: Global, list: &[Stated]) -> Result<KeyMap, AllocError>
     requires { All IsWord list.now }
@@ -84,17 +78,23 @@ fn map_of_aliases(alloc: Global, list: &[Stated]) -> Result<KeyMap, AllocError>
     Ok(key_map)
 }
 
-/// Returns the map of modules.builtin.alias.bin, by the bytes of a modules.builtin.modinfo. An
-/// alias can be used if it is a word of visible characters and has a normal form. Each such alias
-/// leads by its normal form to the name of the module that states it. The priority is the place of
-/// the module in the order that modules are first seen in. modprobe.d(5), "alias".
-pub fn builtin_aliases(alloc: Global, bytes: &[u8]) -> Result<KeyMap, AllocError>
-    requires { length bytes.now ≤ file_limit }
-    ensures { IfOk result (λ made. made ≡ alias_map bytes.now) }
+/// Returns whether a field states an alias that is a word of visible characters.
+fn is_alias(parts: Parts) -> bool
+    ensures { result ≡ is_alias (field_shown parts.entry) }
 {
-    let mut list = stated_aliases(alloc, bytes)?;
-    // A value goes behind the others of its key if they don't follow its module, so no list of
-    // values is moved.
-    list.sort_by_key(|stated| stated.place)?;
-    map_of_aliases(alloc, &list)
+    parts.key == b"alias".as_slice() && is_graphic(parts.value)
+}
+
+/// Puts the value of an alias into the map, if the alias has a normal form.
+fn add_alias(alloc: Global, key_map: &mut KeyMap, stated: Stated) -> Result<(), AllocError>
+    requires { IsWord stated }
+    ensures { OnOk result
+        (key_map.new
+        ≡ with_values key_map.old (option_to_list (value_at (alias_shown stated.entry)))) }
+{
+    if let Some(key) = normal_alias(alloc, stated.alias)? {
+        let name = underscored(alloc, stated.module)?;
+        key_map.add_owned(key.into_vec(), stated.place, name.into_vec())?;
+    }
+    Ok(())
 }

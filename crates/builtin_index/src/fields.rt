@@ -11,20 +11,6 @@ use std::alloc::{AllocError, Global};
 /// as the list of its fields.
 pub type BuiltinList = List<BuiltinField>;
 
-/// Counts the pieces that are fields.
-fn field_count(bytes: &[u8]) -> usize {
-    let mut count = 0;
-    let mut rest = bytes;
-    while !rest.is_empty() {
-        let (piece, after) = split_at_byte(rest, 0);
-        if read_parts(piece).is_some() {
-            count += 1;
-        }
-        rest = after;
-    }
-    count
-}
-
 /// Reads the fields that the bytes of a modules.builtin.modinfo state, in order: the pieces between
 /// NULs that have a `.` before their first `=`. The module is the text before the first `.`, with
 /// each `-` replaced by `_`. The key is the text from there to the first `=`, and the value the
@@ -45,4 +31,18 @@ pub fn builtin_fields(alloc: Global, bytes: &[u8]) -> Result<BuiltinList, AllocE
         rest = after;
     }
     Ok(List::from_vec(list))
+}
+
+/// Counts the pieces that are fields.
+fn field_count(bytes: &[u8]) -> usize {
+    let mut count = 0;
+    let mut rest = bytes;
+    while !rest.is_empty() {
+        let (piece, after) = split_at_byte(rest, 0);
+        if read_parts(piece).is_some() {
+            count += 1;
+        }
+        rest = after;
+    }
+    count
 }

@@ -28,16 +28,6 @@ pub(crate) struct Parts<'a> {
     pub(crate) value: &'a [u8],
 }
 
-/// Cuts a text at the first such byte, if it has one.
-fn split_once(text: &[u8], byte: u8) -> Option<(&[u8], &[u8])>
-    ensures { option_map (λ parts. (parts.0.now, parts.1.now)) result ≡ cut_at byte text.now }
-{
-    if !text.contains(&byte) {
-        return None;
-    }
-    Some(split_at_byte(text, byte))
-}
-
 /// Reads the parts of a piece between NULs, if it is a field. A field has a `.` before its first
 /// `=`, and the text before the first `.` is a word of visible characters.
 #[tactic(auto, unfolding(crate::specs::Fields::field_of))]
@@ -62,4 +52,14 @@ pub(crate) fn field(alloc: Global, parts: Parts) -> Result<BuiltinField, AllocEr
         key: Name::from_slice(alloc, parts.key)?,
         value: Blob::from_slice(alloc, parts.value)?,
     })
+}
+
+/// Cuts a text at the first such byte, if it has one.
+fn split_once(text: &[u8], byte: u8) -> Option<(&[u8], &[u8])>
+    ensures { option_map (λ parts. (parts.0.now, parts.1.now)) result ≡ cut_at byte text.now }
+{
+    if !text.contains(&byte) {
+        return None;
+    }
+    Some(split_at_byte(text, byte))
 }

@@ -63,23 +63,6 @@ pub(crate) fn make_files<F: Reads>(
     Ok(DepmodFiles { usual, extra })
 }
 
-/// Returns the files of a tree for what modules.builtin has, or the refusal of the first that is
-/// too large.
-fn check_outputs(alloc: Global, tree: &RelatedTree, builtin: &Blob) -> Result<OutputFiles, Stop>
-    requires { IsRelated tree.now }
-    ensures { Returns
-        (outputs_outcome (files_spec tree.now.facts (kernel_of tree.now.kernel) builtin.now))
-        result }
-{
-    match outputs(alloc, &tree.relation, &tree.facts, builtin.as_bytes()) {
-        Ok(made) => Ok(made),
-        Err(OutputFault::OutputTooLarge { file, length: _ }) => {
-            Err(Stop::from(Refusal::OutputTooLarge { file }))
-        }
-        Err(OutputFault::Memory) => Err(Stop::Memory),
-    }
-}
-
 /// Writes the text files to the output for a dry run, or else puts all files into the folder.
 pub(crate) fn hand_out<F: Writes, O: Out>(
     alloc: Global,
@@ -97,6 +80,23 @@ pub(crate) fn hand_out<F: Writes, O: Out>(
         return say_texts(extra, made, out);
     }
     put_all(alloc, extra, folder, made, files)
+}
+
+/// Returns the files of a tree for what modules.builtin has, or the refusal of the first that is
+/// too large.
+fn check_outputs(alloc: Global, tree: &RelatedTree, builtin: &Blob) -> Result<OutputFiles, Stop>
+    requires { IsRelated tree.now }
+    ensures { Returns
+        (outputs_outcome (files_spec tree.now.facts (kernel_of tree.now.kernel) builtin.now))
+        result }
+{
+    match outputs(alloc, &tree.relation, &tree.facts, builtin.as_bytes()) {
+        Ok(made) => Ok(made),
+        Err(OutputFault::OutputTooLarge { file, length: _ }) => {
+            Err(Stop::from(Refusal::OutputTooLarge { file }))
+        }
+        Err(OutputFault::Memory) => Err(Stop::Memory),
+    }
 }
 
 /// Writes the text files to the output.
@@ -136,13 +136,6 @@ fn say_each<O: Out>(made: &DepmodFiles, which: &[DepmodFile], out: &mut O) -> Re
     Ok(())
 }
 
-/// Writes a file to the output, if it has any bytes.
-fn say_file<O: Out>(made: &DepmodFiles, file: DepmodFile, out: &mut O) -> Result<(), Stop>
-    ensures { FollowsOnOut (says_file made.now file) O.seen out.old out.new result }
-{
-    say_any(out, made.content(file))
-}
-
 /// Puts some of the files into the folder, one after the other, each whole or not at all.
 fn put_each<F: Writes>(
     alloc: Global,
@@ -158,6 +151,13 @@ fn put_each<F: Writes>(
         put_file(alloc, folder, made, *file, files)?;
     }
     Ok(())
+}
+
+/// Writes a file to the output, if it has any bytes.
+fn say_file<O: Out>(made: &DepmodFiles, file: DepmodFile, out: &mut O) -> Result<(), Stop>
+    ensures { FollowsOnOut (says_file made.now file) O.seen out.old out.new result }
+{
+    say_any(out, made.content(file))
 }
 
 /// Puts a file into the folder, whole or not at all.

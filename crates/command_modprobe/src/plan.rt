@@ -37,15 +37,6 @@ pub(crate) fn show_plan<F: Reads, O: Out>(
     print_plan(alloc, mode, &basis, out)
 }
 
-/// Prints the plan of a request in a mode.
-fn print_plan<O: Out>(alloc: Global, mode: Mode, basis: &Basis, out: &mut O) -> Result<(), Stop>
-    ensures { FollowsOnOut (prints_plan basis.now.folder basis.now.request mode basis.now.known)
-        O.seen out.old out.new result }
-{
-    let steps = plan_in(alloc, mode, &basis.known, &basis.request)?;
-    say_plan(alloc, &basis.folder, &steps, out)
-}
-
 /// Returns the plan of a request in a mode, or the refusal of its first obstacle.
 pub(crate) fn plan_in(
     alloc: Global,
@@ -62,6 +53,29 @@ pub(crate) fn plan_in(
             plan_with(alloc, known, &known.loaded, request)
         }
     }
+}
+
+/// Prints the lines of a plan for the modules in a folder.
+pub(crate) fn say_plan<O: Out>(
+    alloc: Global,
+    folder: &PathText,
+    steps: &PlanSteps,
+    out: &mut O,
+) -> Result<(), Stop>
+    ensures { FollowsOnOut (says_any (plan_lines folder.now steps.now))
+        O.seen out.old out.new result }
+{
+    let text = plan_text(alloc, folder, steps)?;
+    say_any(out, text.as_bytes())
+}
+
+/// Prints the plan of a request in a mode.
+fn print_plan<O: Out>(alloc: Global, mode: Mode, basis: &Basis, out: &mut O) -> Result<(), Stop>
+    ensures { FollowsOnOut (prints_plan basis.now.folder basis.now.request mode basis.now.known)
+        O.seen out.old out.new result }
+{
+    let steps = plan_in(alloc, mode, &basis.known, &basis.request)?;
+    say_plan(alloc, &basis.folder, &steps, out)
 }
 
 /// Returns the plan of a request if these modules are loaded, or the refusal of its first obstacle.
@@ -86,6 +100,17 @@ fn plan_with(
     }
 }
 
+/// Returns the lines of a plan for the modules in a folder, one line a step.
+fn plan_text(alloc: Global, folder: &PathText, steps: &PlanSteps) -> Result<Blob, AllocError>
+    ensures { IfOk result (λ text. text ≡ plan_lines folder.now steps.now) }
+{
+    let mut text = Blob::new(alloc);
+    for step in steps.as_slice() {
+        push_line(alloc, &mut text, folder, step)?;
+    }
+    Ok(text)
+}
+
 /// Returns how an obstacle stops the command: by the refusal that carries its text.
 fn refused(alloc: Global, obstacle: &Obstacle) -> Stop
     ensures { (result ≡ Memory)
@@ -99,31 +124,6 @@ fn refused(alloc: Global, obstacle: &Obstacle) -> Stop
         Ok(text) => Stop::from(Refusal::Obstacle { text }),
         Err(_) => Stop::Memory,
     }
-}
-
-/// Prints the lines of a plan for the modules in a folder.
-pub(crate) fn say_plan<O: Out>(
-    alloc: Global,
-    folder: &PathText,
-    steps: &PlanSteps,
-    out: &mut O,
-) -> Result<(), Stop>
-    ensures { FollowsOnOut (says_any (plan_lines folder.now steps.now))
-        O.seen out.old out.new result }
-{
-    let text = plan_text(alloc, folder, steps)?;
-    say_any(out, text.as_bytes())
-}
-
-/// Returns the lines of a plan for the modules in a folder, one line a step.
-fn plan_text(alloc: Global, folder: &PathText, steps: &PlanSteps) -> Result<Blob, AllocError>
-    ensures { IfOk result (λ text. text ≡ plan_lines folder.now steps.now) }
-{
-    let mut text = Blob::new(alloc);
-    for step in steps.as_slice() {
-        push_line(alloc, &mut text, folder, step)?;
-    }
-    Ok(text)
 }
 
 /// Adds the line of a step.

@@ -21,16 +21,6 @@ pub(crate) fn step_lines(alloc: Global, steps: &RemovePlan) -> Result<Blob, Allo
     Ok(text)
 }
 
-/// Puts the line of a step at the end.
-fn push_step(text: &mut Blob, step: &RemoveStep) -> Result<(), AllocError>
-    ensures { OnOk result (text.new ≡ text.old ++ step_line step.now) }
-{
-    match step {
-        RemoveStep::Rmmod { name } => push_two(text, b"rmmod ", name.as_bytes()),
-        RemoveStep::Command { command, .. } => push_two(text, b"remove ", command.as_bytes()),
-    }
-}
-
 /// Puts a line of two parts at the end.
 pub(crate) fn push_two(text: &mut Blob, word: &[u8], rest: &[u8]) -> Result<(), AllocError>
     ensures { OnOk result (text.new ≡ text.old ++ line_of_two word.now rest.now) }
@@ -50,6 +40,16 @@ pub(crate) fn left_lines(alloc: Global, machine: &Machine) -> Result<Blob, Alloc
         text.extend(line.as_bytes())?;
     }
     Ok(text)
+}
+
+/// Puts the line of a step at the end.
+fn push_step(text: &mut Blob, step: &RemoveStep) -> Result<(), AllocError>
+    ensures { OnOk result (text.new ≡ text.old ++ step_line step.now) }
+{
+    match step {
+        RemoveStep::Rmmod { name } => push_two(text, b"rmmod ", name.as_bytes()),
+        RemoveStep::Command { command, .. } => push_two(text, b"remove ", command.as_bytes()),
+    }
 }
 
 /// Returns the line of the module that was loaded `i`-th.

@@ -17,13 +17,6 @@ use std::alloc::{AllocError, Global};
 /// What a line of a loaded module begins with.
 const LOADED: &[u8] = b"loaded ";
 
-/// Returns the bytes of the file at the path, or none if nothing is there.
-fn bytes_at<'a>(files: &'a MemFiles, path: &PathText) -> &'a [u8]
-    ensures { result.now ≡ bytes_at path.now files.now.contents }
-{
-    files.get(path).unwrap_or_default()
-}
-
 /// Returns how many dependencies the modules.dep of the made tree lists.
 #[tactic(auto, unfolding(crate::specs::Summary::dependencies_left))]
 pub(crate) fn count_dependencies(alloc: Global, files: &MemFiles) -> Result<usize, AllocError>
@@ -31,69 +24,6 @@ pub(crate) fn count_dependencies(alloc: Global, files: &MemFiles) -> Result<usiz
 {
     let path = PathText::from_slice(alloc, b"/t/lib/modules/trial/modules.dep")?;
     count_paths(alloc, bytes_at(files, &path))
-}
-
-/// Returns the path of the image of a module, by what follows `loaded ` in its line.
-fn image_path(alloc: Global, rest: &[u8]) -> Result<PathText, AllocError>
-    ensures { IfOk result (λ path. path ≡ image_path rest.now) }
-{
-    let (name, _) = split_word(rest);
-    let folder = PathText::from_slice(alloc, IMAGES.as_bytes())?;
-    let mut file = Blob::from_slice(alloc, name)?;
-    file.extend(b".img")?;
-    join(alloc, &folder, file.as_bytes())
-}
-
-/// Returns the digest of the images, one after the other, of the modules that an output of modprobe
-/// says were loaded.
-fn digest_of_images(alloc: Global, files: &MemFiles, output: &[u8]) -> Result<[u8; 32], AllocError>
-    ensures { IfOk result
-        (λ digest. digest ≡ sha256 (images_of files.now.contents (loaded output.now))) }
-{
-    let mut hasher = Sha256::new();
-    let mut left = output;
-    while !left.is_empty() {
-        let (line, next) = first_line(left);
-        add_image(alloc, &mut hasher, files, line)?;
-        left = next;
-    }
-    Ok(hasher.finalize())
-}
-
-/// Adds the image of the module to a digest, if the line says that one was loaded.
-fn add_image(
-    alloc: Global,
-    hasher: &mut Sha256,
-    files: &MemFiles,
-    line: &[u8],
-) -> Result<(), AllocError>
-    ensures { OnOk result ((before : List ℕ) → Holds256 hasher.old before
-        → Holds256 hasher.new
-        (before ++ images_of files.now.contents (rest_if_any (rest_after LOADED.now line.now)))) }
-{
-    if let Some(rest) = line.strip_prefix(LOADED) {
-        let path = image_path(alloc, rest)?;
-        hasher.update(bytes_at(files, &path));
-    }
-    Ok(())
-}
-
-/// Puts a line that states a value at the end.
-fn push_stated(text: &mut Blob, what: &[u8], shown: &[u8]) -> Result<(), AllocError>
-    ensures { OnOk result (text.new ≡ text.old ++ stated what.now shown.now) }
-{
-    text.extend(what)?;
-    text.push(b' ')?;
-    text.extend(shown)?;
-    text.push(b'\n')
-}
-
-/// Puts a line that states a count at the end.
-fn push_count(alloc: Global, text: &mut Blob, what: &[u8], count: usize) -> Result<(), AllocError>
-    ensures { OnOk result (text.new ≡ text.old ++ stated what.now (decimal count)) }
-{
-    let shown = format!(in alloc; "{count}")?;
-    push_stated(text, what, shown.as_bytes())
 }
 
 /// Returns the five lines of a trial of this many modules, with this many dependencies, that left
@@ -128,4 +58,74 @@ pub(crate) fn summary(
         hex::encode(alloc, digest.as_slice())?.as_bytes(),
     )?;
     Ok(text)
+}
+
+/// Returns the bytes of the file at the path, or none if nothing is there.
+fn bytes_at<'a>(files: &'a MemFiles, path: &PathText) -> &'a [u8]
+    ensures { result.now ≡ bytes_at path.now files.now.contents }
+{
+    files.get(path).unwrap_or_default()
+}
+
+/// Returns the digest of the images, one after the other, of the modules that an output of modprobe
+/// says were loaded.
+fn digest_of_images(alloc: Global, files: &MemFiles, output: &[u8]) -> Result<[u8; 32], AllocError>
+    ensures { IfOk result
+        (λ digest. digest ≡ sha256 (images_of files.now.contents (loaded output.now))) }
+{
+    let mut hasher = Sha256::new();
+    let mut left = output;
+    while !left.is_empty() {
+        let (line, next) = first_line(left);
+        add_image(alloc, &mut hasher, files, line)?;
+        left = next;
+    }
+    Ok(hasher.finalize())
+}
+
+/// Puts a line that states a count at the end.
+fn push_count(alloc: Global, text: &mut Blob, what: &[u8], count: usize) -> Result<(), AllocError>
+    ensures { OnOk result (text.new ≡ text.old ++ stated what.now (decimal count)) }
+{
+    let shown = format!(in alloc; "{count}")?;
+    push_stated(text, what, shown.as_bytes())
+}
+
+/// Puts a line that states a value at the end.
+fn push_stated(text: &mut Blob, what: &[u8], shown: &[u8]) -> Result<(), AllocError>
+    ensures { OnOk result (text.new ≡ text.old ++ stated what.now shown.now) }
+{
+    text.extend(what)?;
+    text.push(b' ')?;
+    text.extend(shown)?;
+    text.push(b'\n')
+}
+
+/// Adds the image of the module to a digest, if the line says that one was loaded.
+fn add_image(
+    alloc: Global,
+    hasher: &mut Sha256,
+    files: &MemFiles,
+    line: &[u8],
+) -> Result<(), AllocError>
+    ensures { OnOk result ((before : List ℕ) → Holds256 hasher.old before
+        → Holds256 hasher.new
+        (before ++ images_of files.now.contents (rest_if_any (rest_after LOADED.now line.now)))) }
+{
+    if let Some(rest) = line.strip_prefix(LOADED) {
+        let path = image_path(alloc, rest)?;
+        hasher.update(bytes_at(files, &path));
+    }
+    Ok(())
+}
+
+/// Returns the path of the image of a module, by what follows `loaded ` in its line.
+fn image_path(alloc: Global, rest: &[u8]) -> Result<PathText, AllocError>
+    ensures { IfOk result (λ path. path ≡ image_path rest.now) }
+{
+    let (name, _) = split_word(rest);
+    let folder = PathText::from_slice(alloc, IMAGES.as_bytes())?;
+    let mut file = Blob::from_slice(alloc, name)?;
+    file.extend(b".img")?;
+    join(alloc, &folder, file.as_bytes())
 }

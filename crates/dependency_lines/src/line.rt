@@ -91,6 +91,21 @@ pub(crate) fn check_needs<K: KnownNames>(
     Ok(())
 }
 
+/// Returns whether a text begins as the dependency line of the module of this name does.
+pub(crate) fn begins_line(line: &[u8], name: &[u8]) -> bool
+    ensures { result ≡ begins_line name.now line.now }
+{
+    let own = split_at_byte(line, b':').0;
+    is_front(line, own) && names_module(own, name)
+}
+
+/// Returns what follows the first space of a text, if there is one.
+pub(crate) fn after_space(text: &[u8]) -> Option<&[u8]>
+    ensures { IsAfterSpace text.now (option_copied result) }
+{
+    split_at_space(text).1
+}
+
 /// Returns whether a text is the dependency line of the module of this name, and each module that
 /// it needs is known. Names that aren't as in their paths are written to a buffer, one after the
 /// other.
@@ -112,42 +127,6 @@ fn is_line<'a, K: KnownNames>(
         return Ok(false);
     }
     are_found_good(paths, lists, buffer, known, split_at_byte(line, b':').1)
-}
-
-/// Returns whether a text begins as the dependency line of the module of this name does.
-pub(crate) fn begins_line(line: &[u8], name: &[u8]) -> bool
-    ensures { result ≡ begins_line name.now line.now }
-{
-    let own = split_at_byte(line, b':').0;
-    is_front(line, own) && names_module(own, name)
-}
-
-/// Returns whether what a line has before its first `:` is a path and isn't the whole line.
-fn is_front(line: &[u8], own: &[u8]) -> bool
-    requires { own.now ≡ own_path line.now }
-    ensures { result ≡ (list_any (λ b. b == 58) line.now && is_line_path own.now) }
-{
-    own.len() < line.len() && is_line_path(own)
-}
-
-/// Returns whether the module at a path has this name.
-fn names_module(path: &[u8], name: &[u8]) -> bool
-    ensures { result ≡ bytes_eq (module_name path.now) name.now }
-{
-    has_name(stem(path), name)
-}
-
-/// Returns whether the module at a path is known. Most names are the same as in their paths, and
-/// aren't copied.
-fn is_known<K: KnownNames>(buffer: &mut Vec<u8>, known: &K, path: &[u8]) -> Result<bool, AllocError>
-    ensures { IfOk result (λ there. there ≡ K.has known.now (module_name path.now)) }
-{
-    let text = stem(path);
-    if is_plain(text) {
-        return Ok(known.has(text));
-    }
-    write_name(buffer, path)?;
-    Ok(known.has(buffer.as_slice()))
 }
 
 /// Returns whether what follows the `:` of a line is a sequence of paths of known modules, as
@@ -177,6 +156,56 @@ fn are_found_good<'a, K: KnownNames>(
     Ok(true)
 }
 
+/// Returns whether what a line has before its first `:` is a path and isn't the whole line.
+fn is_front(line: &[u8], own: &[u8]) -> bool
+    requires { own.now ≡ own_path line.now }
+    ensures { result ≡ (list_any (λ b. b == 58) line.now && is_line_path own.now) }
+{
+    own.len() < line.len() && is_line_path(own)
+}
+
+/// Returns whether the module at a path has this name.
+fn names_module(path: &[u8], name: &[u8]) -> bool
+    ensures { result ≡ bytes_eq (module_name path.now) name.now }
+{
+    has_name(stem(path), name)
+}
+
+/// Splits a text at its first space, if there is one: what comes before it, and what follows it.
+fn split_at_space(text: &[u8]) -> (&[u8], Option<&[u8]>)
+    ensures before { result.0.now ≡ before_first (λ b. b == 32) text.now }
+    ensures after { IsAfterSpace text.now (option_copied result.1) }
+{
+    let (before, after) = split_at_byte(text, b' ');
+    if before.len() < text.len() {
+        (before, Some(after))
+    } else {
+        (before, None)
+    }
+}
+
+/// Returns whether a text is the path of a known module.
+fn is_good<'a, K: KnownNames>(
+    paths: &mut GoodTexts<'a>,
+    buffer: &mut Vec<u8>,
+    known: &K,
+    path: &'a [u8],
+) -> Result<bool, AllocError>
+    requires { AreKept (is_good (K.has known.now)) paths.old.slots.items }
+    ensures good { IfOk result (λ good. good ≡ is_good (K.has known.now) path.now) }
+    ensures kept { OnOk result (AreKept (is_good (K.has known.now)) paths.new.slots.items) }
+{
+    let slot = slot_of(path);
+    if paths.has(slot, path) {
+        return Ok(true);
+    }
+    if !is_line_path(path) || !is_known(buffer, known, path)? {
+        return Ok(false);
+    }
+    paths.put(slot, path);
+    Ok(true)
+}
+
 /// Returns whether what follows the `:` of a line is a sequence of paths of known modules, maybe
 /// none, with a space before each.
 fn are_good<'a, K: KnownNames>(
@@ -203,26 +232,17 @@ fn are_good<'a, K: KnownNames>(
     Ok(true)
 }
 
-/// Returns whether a text is the path of a known module.
-fn is_good<'a, K: KnownNames>(
-    paths: &mut GoodTexts<'a>,
-    buffer: &mut Vec<u8>,
-    known: &K,
-    path: &'a [u8],
-) -> Result<bool, AllocError>
-    requires { AreKept (is_good (K.has known.now)) paths.old.slots.items }
-    ensures good { IfOk result (λ good. good ≡ is_good (K.has known.now) path.now) }
-    ensures kept { OnOk result (AreKept (is_good (K.has known.now)) paths.new.slots.items) }
+/// Returns whether the module at a path is known. Most names are the same as in their paths, and
+/// aren't copied.
+fn is_known<K: KnownNames>(buffer: &mut Vec<u8>, known: &K, path: &[u8]) -> Result<bool, AllocError>
+    ensures { IfOk result (λ there. there ≡ K.has known.now (module_name path.now)) }
 {
-    let slot = slot_of(path);
-    if paths.has(slot, path) {
-        return Ok(true);
+    let text = stem(path);
+    if is_plain(text) {
+        return Ok(known.has(text));
     }
-    if !is_line_path(path) || !is_known(buffer, known, path)? {
-        return Ok(false);
-    }
-    paths.put(slot, path);
-    Ok(true)
+    write_name(buffer, path)?;
+    Ok(known.has(buffer.as_slice()))
 }
 
 /// Returns the bytes before the first space of a text, and the rest, which begins with it.
@@ -233,25 +253,5 @@ fn up_to_space(text: &[u8]) -> (&[u8], &[u8])
     match memchr(b' ', text) {
         Some(place) => text.split_at(place),
         None => (text, &text[text.len()..]),
-    }
-}
-
-/// Returns what follows the first space of a text, if there is one.
-pub(crate) fn after_space(text: &[u8]) -> Option<&[u8]>
-    ensures { IsAfterSpace text.now (option_copied result) }
-{
-    split_at_space(text).1
-}
-
-/// Splits a text at its first space, if there is one: what comes before it, and what follows it.
-fn split_at_space(text: &[u8]) -> (&[u8], Option<&[u8]>)
-    ensures before { result.0.now ≡ before_first (λ b. b == 32) text.now }
-    ensures after { IsAfterSpace text.now (option_copied result.1) }
-{
-    let (before, after) = split_at_byte(text, b' ');
-    if before.len() < text.len() {
-        (before, Some(after))
-    } else {
-        (before, None)
     }
 }

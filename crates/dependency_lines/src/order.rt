@@ -18,17 +18,6 @@ pub(crate) fn sorted_places(alloc: Global, lines: &Lines<'_>) -> Result<Vec<usiz
     Ok(places)
 }
 
-/// Lists the first places.
-fn first_places(alloc: Global, count: usize) -> Result<Vec<usize>, AllocError>
-    ensures { IfOk result (λ places. AreFirst count places.items) }
-{
-    let mut places = Vec::with_capacity(alloc, count)?;
-    for place in 0..count {
-        places.push(place)?;
-    }
-    Ok(places)
-}
-
 /// Finds where the module of each number is. Returns `None` unless the modules have the numbers
 /// from 0 on, each once, as depmod gives them.
 pub(crate) fn places_by_number(
@@ -48,6 +37,35 @@ pub(crate) fn places_by_number(
     } else {
         Ok(None)
     }
+}
+
+/// Finds the number of the module of this name, among modules whose names rise.
+pub(crate) fn number_of(lines: &Lines<'_>, name: &[u8]) -> Option<usize>
+    requires { NamesRise lines.now }
+    ensures { IsNumberOf lines.now name.now result }
+{
+    let mut low = 0;
+    let mut high = lines.len();
+    while low < high {
+        let middle = low + (high - low) / 2;
+        match lines.name(middle).cmp(name) {
+            Ordering::Less => low = middle + 1,
+            Ordering::Greater => high = middle,
+            Ordering::Equal => return Some(lines.number(middle) as usize),
+        }
+    }
+    None
+}
+
+/// Lists the first places.
+fn first_places(alloc: Global, count: usize) -> Result<Vec<usize>, AllocError>
+    ensures { IfOk result (λ places. AreFirst count places.items) }
+{
+    let mut places = Vec::with_capacity(alloc, count)?;
+    for place in 0..count {
+        places.push(place)?;
+    }
+    Ok(places)
 }
 
 /// Finds the same. A number that no module has gets the count of modules.
@@ -77,22 +95,4 @@ fn are_inside(places: &[usize], count: usize) -> bool
         }
     }
     true
-}
-
-/// Finds the number of the module of this name, among modules whose names rise.
-pub(crate) fn number_of(lines: &Lines<'_>, name: &[u8]) -> Option<usize>
-    requires { NamesRise lines.now }
-    ensures { IsNumberOf lines.now name.now result }
-{
-    let mut low = 0;
-    let mut high = lines.len();
-    while low < high {
-        let middle = low + (high - low) / 2;
-        match lines.name(middle).cmp(name) {
-            Ordering::Less => low = middle + 1,
-            Ordering::Greater => high = middle,
-            Ordering::Equal => return Some(lines.number(middle) as usize),
-        }
-    }
-    None
 }

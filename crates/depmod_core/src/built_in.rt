@@ -13,6 +13,17 @@ use km_names::{Names, PathText, first_line, is_graphic, module_name};
 use name_table::NameSet;
 use std::alloc::{AllocError, Global};
 
+/// Returns the map of modules.builtin.bin: the name of each module whose path a modules.builtin
+/// lists, with an empty text.
+#[tactic(auto, unfolding(crate::specs::BuiltIn::built_in_map, crate::specs::BuiltIn::built_in_names))]
+pub(crate) fn built_in_map(alloc: Global, builtin: &[u8]) -> Result<KeyMap, AllocError>
+    ensures { IfOk result (λ map. map ≡ built_in_map builtin.now) }
+{
+    let names = listed_names(alloc, builtin)?;
+    let set = distinct(alloc, &names)?;
+    map_of_names(alloc, &set)
+}
+
 /// Returns the names of the listed modules whose names are words of visible characters.
 fn listed_names(alloc: Global, builtin: &[u8]) -> Result<Names, AllocError>
     ensures { IfOk result
@@ -54,15 +65,4 @@ fn map_of_names(alloc: Global, names: &NameSet) -> Result<KeyMap, AllocError>
         }
     }
     Ok(map)
-}
-
-/// Returns the map of modules.builtin.bin: the name of each module whose path a modules.builtin
-/// lists, with an empty text.
-#[tactic(auto, unfolding(crate::specs::BuiltIn::built_in_map, crate::specs::BuiltIn::built_in_names))]
-pub(crate) fn built_in_map(alloc: Global, builtin: &[u8]) -> Result<KeyMap, AllocError>
-    ensures { IfOk result (λ map. map ≡ built_in_map builtin.now) }
-{
-    let names = listed_names(alloc, builtin)?;
-    let set = distinct(alloc, &names)?;
-    map_of_names(alloc, &set)
 }

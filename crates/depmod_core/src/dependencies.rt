@@ -14,50 +14,6 @@ use module_facts::Facts;
 use provider_rel::{Order, Relation, TreeFacts};
 use std::alloc::{AllocError, Global};
 
-/// Returns the path of the module at a place of a tree.
-fn path_at<'a>(tree: &'a TreeFacts, place: &TreeIndex) -> &'a [u8]
-    ensures { result.now ≡ path_at tree.now place.now.0 }
-{
-    match tree.get(place.0 as usize) {
-        Some(facts) => facts.path.as_bytes(),
-        None => &[],
-    }
-}
-
-/// Puts the dependency line of a module, which depends on those at these places.
-fn put_line(
-    text: &mut Text,
-    tree: &TreeFacts,
-    facts: &Facts,
-    order: &Order,
-) -> Result<(), AllocError>
-    ensures { OnOk result
-        (text.new ≡ with_piece text.old (line_of tree.now (facts.now, places_of order.now))) }
-{
-    text.put_all(&[facts.path.as_bytes(), b":"])?;
-    let places = order.as_slice();
-    for n in (0..places.len()).rev() {
-        text.put_all(&[b" ", path_at(tree, &places[n])])?;
-    }
-    Ok(())
-}
-
-/// Puts the text of modules.dep.
-fn put_lines(text: &mut Text, relation: &Relation, tree: &TreeFacts) -> Result<(), AllocError>
-    requires few { length tree.now ≤ 10000 }
-    requires long { length (closures_by relation.now) ≡ length tree.now }
-    ensures { OnOk result
-        (text.new ≡ with_piece text.old (dep_text tree.now (closures_by relation.now))) }
-{
-    let modules = tree.as_slice();
-    for place in 0..modules.len() {
-        let order = relation.closure(TreeIndex(place as u32));
-        put_line(text, tree, &modules[place], order)?;
-        text.put(b"\n")?;
-    }
-    Ok(())
-}
-
 /// Returns the text of modules.dep. For each module it has its path, and the paths of the modules
 /// on which it depends, from the last to the first. modules.dep(5).
 pub(crate) fn dep_text(
@@ -77,15 +33,6 @@ pub(crate) fn dep_text(
     put_lines(&mut measured, relation, tree)?;
     let mut text = Text::with_capacity(alloc, measured.checked_length(alloc, OutputFile::Dep)?)?;
     put_lines(&mut text, relation, tree)?;
-    Ok(text.into_bytes(alloc))
-}
-
-/// Returns the dependency line of a module.
-fn line(alloc: Global, tree: &TreeFacts, facts: &Facts, order: &Order) -> Result<Blob, AllocError>
-    ensures { IfOk result (λ bytes. bytes ≡ line_of tree.now (facts.now, places_of order.now)) }
-{
-    let mut text = Text::with_capacity(alloc, facts.path.len())?;
-    put_line(&mut text, tree, facts, order)?;
     Ok(text.into_bytes(alloc))
 }
 
@@ -109,4 +56,57 @@ pub(crate) fn dep_map(
         map.add(facts.name.as_bytes(), place as u32, line.as_bytes())?;
     }
     Ok(map)
+}
+
+/// Puts the text of modules.dep.
+fn put_lines(text: &mut Text, relation: &Relation, tree: &TreeFacts) -> Result<(), AllocError>
+    requires few { length tree.now ≤ 10000 }
+    requires long { length (closures_by relation.now) ≡ length tree.now }
+    ensures { OnOk result
+        (text.new ≡ with_piece text.old (dep_text tree.now (closures_by relation.now))) }
+{
+    let modules = tree.as_slice();
+    for place in 0..modules.len() {
+        let order = relation.closure(TreeIndex(place as u32));
+        put_line(text, tree, &modules[place], order)?;
+        text.put(b"\n")?;
+    }
+    Ok(())
+}
+
+/// Returns the dependency line of a module.
+fn line(alloc: Global, tree: &TreeFacts, facts: &Facts, order: &Order) -> Result<Blob, AllocError>
+    ensures { IfOk result (λ bytes. bytes ≡ line_of tree.now (facts.now, places_of order.now)) }
+{
+    let mut text = Text::with_capacity(alloc, facts.path.len())?;
+    put_line(&mut text, tree, facts, order)?;
+    Ok(text.into_bytes(alloc))
+}
+
+/// Puts the dependency line of a module, which depends on those at these places.
+fn put_line(
+    text: &mut Text,
+    tree: &TreeFacts,
+    facts: &Facts,
+    order: &Order,
+) -> Result<(), AllocError>
+    ensures { OnOk result
+        (text.new ≡ with_piece text.old (line_of tree.now (facts.now, places_of order.now))) }
+{
+    text.put_all(&[facts.path.as_bytes(), b":"])?;
+    let places = order.as_slice();
+    for n in (0..places.len()).rev() {
+        text.put_all(&[b" ", path_at(tree, &places[n])])?;
+    }
+    Ok(())
+}
+
+/// Returns the path of the module at a place of a tree.
+fn path_at<'a>(tree: &'a TreeFacts, place: &TreeIndex) -> &'a [u8]
+    ensures { result.now ≡ path_at tree.now place.now.0 }
+{
+    match tree.get(place.0 as usize) {
+        Some(facts) => facts.path.as_bytes(),
+        None => &[],
+    }
 }

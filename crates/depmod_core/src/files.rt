@@ -64,6 +64,133 @@ impl OutputFiles {
     }
 }
 
+/// Makes the files of depmod from a tree, with the tree's relation over a kernel, and from the
+/// bytes of modules.builtin. The files represent what they are made of: each index its map, and
+/// modules.unmet its lines. modules.dep(5), depmod(8).
+///
+/// # Errors
+///
+/// `OutputTooLarge` if a file would have more than 67,108,864 bytes. It has the name of the first
+/// such file in the order of [`OutputFiles`], and how many bytes the file would have. That is known
+/// before the bytes of the file are written. Or `Memory`.
+#[tactic(auto, using(crate::proofs::FileSteps::closures_long))]
+pub fn outputs(
+    alloc: Global,
+    relation: &Relation,
+    tree: &TreeFacts,
+    builtin: &[u8],
+) -> Result<OutputFiles, OutputFault>
+    requires tree { IsTree tree.now }
+    requires relation { IsRelationOf tree.now relation.now }
+    ensures ok { IfOk result (λ files. (kernel : Kernel)
+        → IsRelation (modules_of tree.now) kernel relation.now →
+        outputs_of tree.now kernel builtin.now ≡ Ok files) }
+    ensures err { IfErr result (λ fault. (fault ≡ OutputFault.Memory)
+        ⊎ ((kernel : Kernel) → IsRelation (modules_of tree.now) kernel relation.now →
+        outputs_of tree.now kernel builtin.now ≡ Err fault)) }
+    ensures decode { IfOk result (λ files. (kernel : Kernel)
+        → IsRelation (modules_of tree.now) kernel relation.now →
+        StandFor tree.now kernel builtin.now files) }
+{
+    let all = AllStated::new(alloc, tree)?;
+    make_all(alloc, relation, tree, &all, builtin)
+}
+
+/// Makes the bytes of all files, unless those of one are too many.
+fn make_all(
+    alloc: Global,
+    relation: &Relation,
+    tree: &TreeFacts,
+    all: &AllStated<'_>,
+    builtin: &[u8],
+) -> Result<OutputFiles, OutputFault>
+    requires tree { IsTree tree.now }
+    requires all { AreAllStated tree.now all.now }
+    requires long { length (closures_by relation.now) ≡ length tree.now }
+    ensures ok { IfOk result
+        (λ made. made
+        ≡ (files_by tree.now (closures_by relation.now) (obstacles_by relation.now)
+        builtin.now)) }
+    ensures passed { OnOk result
+        (output_fault (files_by tree.now (closures_by relation.now) (obstacles_by relation.now)
+        builtin.now)
+        ≡ None) }
+    ensures err { IfErr result (λ fault. (fault ≡ OutputFault.Memory)
+        ⊎ (output_fault
+        (files_by tree.now (closures_by relation.now) (obstacles_by relation.now) builtin.now)
+        ≡ Some fault)) }
+    ensures stands { IfOk result
+        (λ made. (file : OutputFile)
+        → Stands tree.now (closures_by relation.now) builtin.now file (content made file)) }
+{
+    use OutputFile::{
+        Alias, AliasBin, BuiltinBin, Dep, DepBin, Softdep, Symbols, SymbolsBin, Unmet,
+    };
+
+    let dep = make_pair(alloc, relation, tree, all, builtin, Dep, DepBin)?;
+    let alias = make_pair(alloc, relation, tree, all, builtin, Alias, AliasBin)?;
+    let softdep = make(alloc, relation, tree, all, builtin, Softdep)?;
+    let symbols = make_pair(alloc, relation, tree, all, builtin, Symbols, SymbolsBin)?;
+    let builtin_bin = make(alloc, relation, tree, all, builtin, BuiltinBin)?;
+    let unmet = make(alloc, relation, tree, all, builtin, Unmet)?;
+    Ok(OutputFiles {
+        dep: dep.text,
+        dep_bin: dep.index,
+        alias: alias.text,
+        alias_bin: alias.index,
+        softdep,
+        symbols: symbols.text,
+        symbols_bin: symbols.index,
+        builtin_bin,
+        unmet,
+    })
+}
+
+/// Makes the bytes of two of the files, one after the other, unless they are too many.
+fn make_pair(
+    alloc: Global,
+    relation: &Relation,
+    tree: &TreeFacts,
+    all: &AllStated<'_>,
+    builtin: &[u8],
+    first_file: OutputFile,
+    second_file: OutputFile,
+) -> Result<TextAndIndex, OutputFault>
+    requires tree { IsTree tree.now }
+    requires all { AreAllStated tree.now all.now }
+    requires long { length (closures_by relation.now) ≡ length tree.now }
+    ensures text { IfOk result
+        (λ pair. pair.text
+        ≡ content (files_by tree.now (closures_by relation.now) (obstacles_by relation.now)
+        builtin.now) first_file) }
+    ensures index { IfOk result
+        (λ pair. pair.index
+        ≡ content (files_by tree.now (closures_by relation.now) (obstacles_by relation.now)
+        builtin.now) second_file) }
+    ensures passed { OnOk result (first (size_fault first_file (content (files_by tree.now (closures_by relation.now) (obstacles_by relation.now) builtin.now) first_file)
+        ∷ size_fault second_file
+        (content (files_by tree.now (closures_by relation.now) (obstacles_by relation.now)
+        builtin.now) second_file)
+        ∷ [])
+        ≡ None) }
+    ensures err { IfErr result (λ fault. (fault ≡ OutputFault.Memory)
+        ⊎ (first (size_fault first_file
+        (content
+        (files_by tree.now (closures_by relation.now) (obstacles_by relation.now) builtin.now)
+        first_file)
+        ∷ size_fault second_file
+        (content (files_by tree.now (closures_by relation.now) (obstacles_by relation.now)
+        builtin.now) second_file)
+        ∷ [])
+        ≡ Some fault)) }
+    ensures stands { IfOk result
+        (λ pair. Stands tree.now (closures_by relation.now) builtin.now second_file pair.index) }
+{
+    let text = make(alloc, relation, tree, all, builtin, first_file)?;
+    let index = make(alloc, relation, tree, all, builtin, second_file)?;
+    Ok(TextAndIndex { text, index })
+}
+
 /// Makes the bytes of one of the files, unless they are too many.
 #[tactic(auto, unfolding(crate::specs::Files::files_by))]
 fn make(
@@ -120,131 +247,4 @@ fn make(
 struct TextAndIndex {
     text: Blob,
     index: Blob,
-}
-
-/// Makes the bytes of two of the files, one after the other, unless they are too many.
-fn make_pair(
-    alloc: Global,
-    relation: &Relation,
-    tree: &TreeFacts,
-    all: &AllStated<'_>,
-    builtin: &[u8],
-    first_file: OutputFile,
-    second_file: OutputFile,
-) -> Result<TextAndIndex, OutputFault>
-    requires tree { IsTree tree.now }
-    requires all { AreAllStated tree.now all.now }
-    requires long { length (closures_by relation.now) ≡ length tree.now }
-    ensures text { IfOk result
-        (λ pair. pair.text
-        ≡ content (files_by tree.now (closures_by relation.now) (obstacles_by relation.now)
-        builtin.now) first_file) }
-    ensures index { IfOk result
-        (λ pair. pair.index
-        ≡ content (files_by tree.now (closures_by relation.now) (obstacles_by relation.now)
-        builtin.now) second_file) }
-    ensures passed { OnOk result (first (size_fault first_file (content (files_by tree.now (closures_by relation.now) (obstacles_by relation.now) builtin.now) first_file)
-        ∷ size_fault second_file
-        (content (files_by tree.now (closures_by relation.now) (obstacles_by relation.now)
-        builtin.now) second_file)
-        ∷ [])
-        ≡ None) }
-    ensures err { IfErr result (λ fault. (fault ≡ OutputFault.Memory)
-        ⊎ (first (size_fault first_file
-        (content
-        (files_by tree.now (closures_by relation.now) (obstacles_by relation.now) builtin.now)
-        first_file)
-        ∷ size_fault second_file
-        (content (files_by tree.now (closures_by relation.now) (obstacles_by relation.now)
-        builtin.now) second_file)
-        ∷ [])
-        ≡ Some fault)) }
-    ensures stands { IfOk result
-        (λ pair. Stands tree.now (closures_by relation.now) builtin.now second_file pair.index) }
-{
-    let text = make(alloc, relation, tree, all, builtin, first_file)?;
-    let index = make(alloc, relation, tree, all, builtin, second_file)?;
-    Ok(TextAndIndex { text, index })
-}
-
-/// Makes the bytes of all files, unless those of one are too many.
-fn make_all(
-    alloc: Global,
-    relation: &Relation,
-    tree: &TreeFacts,
-    all: &AllStated<'_>,
-    builtin: &[u8],
-) -> Result<OutputFiles, OutputFault>
-    requires tree { IsTree tree.now }
-    requires all { AreAllStated tree.now all.now }
-    requires long { length (closures_by relation.now) ≡ length tree.now }
-    ensures ok { IfOk result
-        (λ made. made
-        ≡ (files_by tree.now (closures_by relation.now) (obstacles_by relation.now)
-        builtin.now)) }
-    ensures passed { OnOk result
-        (output_fault (files_by tree.now (closures_by relation.now) (obstacles_by relation.now)
-        builtin.now)
-        ≡ None) }
-    ensures err { IfErr result (λ fault. (fault ≡ OutputFault.Memory)
-        ⊎ (output_fault
-        (files_by tree.now (closures_by relation.now) (obstacles_by relation.now) builtin.now)
-        ≡ Some fault)) }
-    ensures stands { IfOk result
-        (λ made. (file : OutputFile)
-        → Stands tree.now (closures_by relation.now) builtin.now file (content made file)) }
-{
-    use OutputFile::{
-        Alias, AliasBin, BuiltinBin, Dep, DepBin, Softdep, Symbols, SymbolsBin, Unmet,
-    };
-
-    let dep = make_pair(alloc, relation, tree, all, builtin, Dep, DepBin)?;
-    let alias = make_pair(alloc, relation, tree, all, builtin, Alias, AliasBin)?;
-    let softdep = make(alloc, relation, tree, all, builtin, Softdep)?;
-    let symbols = make_pair(alloc, relation, tree, all, builtin, Symbols, SymbolsBin)?;
-    let builtin_bin = make(alloc, relation, tree, all, builtin, BuiltinBin)?;
-    let unmet = make(alloc, relation, tree, all, builtin, Unmet)?;
-    Ok(OutputFiles {
-        dep: dep.text,
-        dep_bin: dep.index,
-        alias: alias.text,
-        alias_bin: alias.index,
-        softdep,
-        symbols: symbols.text,
-        symbols_bin: symbols.index,
-        builtin_bin,
-        unmet,
-    })
-}
-
-/// Makes the files of depmod from a tree, with the tree's relation over a kernel, and from the
-/// bytes of modules.builtin. The files represent what they are made of: each index its map, and
-/// modules.unmet its lines. modules.dep(5), depmod(8).
-///
-/// # Errors
-///
-/// `OutputTooLarge` if a file would have more than 67,108,864 bytes. It has the name of the first
-/// such file in the order of [`OutputFiles`], and how many bytes the file would have. That is known
-/// before the bytes of the file are written. Or `Memory`.
-#[tactic(auto, using(crate::proofs::FileSteps::closures_long))]
-pub fn outputs(
-    alloc: Global,
-    relation: &Relation,
-    tree: &TreeFacts,
-    builtin: &[u8],
-) -> Result<OutputFiles, OutputFault>
-    requires tree { IsTree tree.now }
-    requires relation { IsRelationOf tree.now relation.now }
-    ensures ok { IfOk result (λ files. (kernel : Kernel)
-        → IsRelation (modules_of tree.now) kernel relation.now →
-        outputs_of tree.now kernel builtin.now ≡ Ok files) }
-    ensures err { IfErr result (λ fault. (fault ≡ OutputFault.Memory)
-        ⊎ ((kernel : Kernel) → IsRelation (modules_of tree.now) kernel relation.now →
-        outputs_of tree.now kernel builtin.now ≡ Err fault)) }
-    ensures decode { IfOk result (λ files. (kernel : Kernel)
-        → IsRelation (modules_of tree.now) kernel relation.now →
-        StandFor tree.now kernel builtin.now files) }
-{
-    let all = AllStated::new(alloc, tree)?;
-    make_all(alloc, relation, tree, &all, builtin)
 }

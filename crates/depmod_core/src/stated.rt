@@ -49,133 +49,6 @@ impl<'a> Model for Statement<'a> {
     ghost view = { λ s. (s.text.now, s.key) };
 }
 
-/// Returns an alias with its normal form, if it can be used: it is a word of visible characters,
-/// and has a normal form.
-#[tactic(auto, unfolding(crate::specs::Stated::is_usable_alias))]
-fn usable_alias(alloc: Global, alias: &[u8]) -> Result<Option<Statement<'_>>, AllocError>
-    ensures { IfOk result
-        (λ found. found
-        ≡ (if is_usable_alias alias.now
-        then Some (statement StatedKind.Alias alias.now)
-        else None)) }
-{
-    if !is_graphic(alias) {
-        return Ok(None);
-    }
-    match normal_alias(alloc, alias)? {
-        Some(form) => Ok(Some(Statement {
-            text: alias,
-            key: Some(Blob::from_vec(form.into_vec())),
-        })),
-        None => Ok(None),
-    }
-}
-
-fn is_printable(text: &[u8]) -> bool
-    ensures { result ≡ list_all is_printable text.now }
-{
-    text.iter().all(|b| b.is_ascii_graphic() || *b == b' ')
-}
-
-fn is_spaces(text: &[u8]) -> bool
-    ensures { result ≡ list_all (λ b. b == 32) text.now }
-{
-    text.iter().all(|b| *b == b' ')
-}
-
-/// Returns whether the text of a softdep can be used. It has only visible characters and spaces, at
-/// least one character that isn't a space, and no mark of continuation at its end.
-#[tactic(auto, unfolding(crate::specs::Stated::is_usable_softdep))]
-fn is_usable_softdep(text: &[u8]) -> bool
-    ensures { result ≡ is_usable_softdep text.now }
-{
-    is_printable(text) && !is_spaces(text) && !text.ends_with(b"\\")
-}
-
-/// Returns the aliases of a module that can be used.
-fn aliases(alloc: Global, facts: &Facts) -> Result<Vec<Statement<'_>>, AllocError>
-    ensures { IfOk result
-        (λ stated. stated.items ≡ map (statement StatedKind.Alias) (aliases_of facts.now)) }
-{
-    let mut usable = Vec::new(alloc);
-    for alias in facts.aliases.as_slice() {
-        if let Some(stated) = usable_alias(alloc, alias.as_bytes())? {
-            usable.push(stated)?;
-        }
-    }
-    Ok(usable)
-}
-
-/// Returns the texts of a module's softdeps that can be used. They have no keys.
-fn softdeps(alloc: Global, facts: &Facts) -> Result<Vec<Statement<'_>>, AllocError>
-    ensures { IfOk result
-        (λ stated. stated.items ≡ map (statement StatedKind.Softdep) (softdeps_of facts.now)) }
-{
-    let mut usable = Vec::new(alloc);
-    for text in facts.softdeps.as_slice() {
-        let text = text.as_bytes();
-        if is_usable_softdep(text) {
-            usable.push(Statement { text, key: None })?;
-        }
-    }
-    Ok(usable)
-}
-
-/// Returns the key of a symbol.
-fn symbol_key(alloc: Global, symbol: &[u8]) -> Result<Blob, AllocError>
-    ensures { IfOk result (λ key. key ≡ codes "symbol:" ++ symbol.now) }
-{
-    let mut key = Blob::from_slice(alloc, b"symbol:")?;
-    key.extend(symbol)?;
-    Ok(key)
-}
-
-/// Returns the names of the symbols that a module exports.
-fn symbols(alloc: Global, facts: &Facts) -> Result<Vec<Statement<'_>>, AllocError>
-    ensures { IfOk result
-        (λ stated. stated.items ≡ map (statement StatedKind.Symbol) (symbols_of facts.now)) }
-{
-    let mut names = Vec::new(alloc);
-    for export in facts.exports.as_slice() {
-        let text = export.name.as_bytes();
-        names.push(Statement {
-            text,
-            key: Some(symbol_key(alloc, text)?),
-        })?;
-    }
-    Ok(names)
-}
-
-/// Returns what a module states of a kind.
-fn stated_by(
-    alloc: Global,
-    kind: StatedKind,
-    facts: &Facts,
-) -> Result<Vec<Statement<'_>>, AllocError>
-    ensures { IfOk result (λ stated. stated.items ≡ statements kind facts.now) }
-{
-    match kind {
-        StatedKind::Alias => aliases(alloc, facts),
-        StatedKind::Softdep => softdeps(alloc, facts),
-        StatedKind::Symbol => symbols(alloc, facts),
-    }
-}
-
-/// Collects what the modules of a tree state of a kind.
-fn all_stated(
-    alloc: Global,
-    kind: StatedKind,
-    tree: &TreeFacts,
-) -> Result<Vec<Vec<Statement<'_>>>, AllocError>
-    ensures { IfOk result (λ all. AreStated kind tree.now all.items) }
-{
-    let mut all = Vec::new(alloc);
-    for facts in tree.as_slice() {
-        all.push(stated_by(alloc, kind, facts)?)?;
-    }
-    Ok(all)
-}
-
 /// What the modules of a tree state, of each kind.
 #[derive(Drop)]
 pub(crate) struct AllStated<'a> {
@@ -209,66 +82,6 @@ impl<'a> AllStated<'a> {
     }
 }
 
-/// Puts a line of the module of this name.
-fn put_line(text: &mut Text, kind: StatedKind, name: &[u8], stated: &[u8]) -> Result<(), AllocError>
-    ensures { OnOk result
-        (text.new ≡ with_piece text.old (ended (line_of kind name.now stated.now))) }
-{
-    match kind {
-        StatedKind::Alias => text.put_all(&[b"alias ", stated, b" ", name, b"\n"]),
-        StatedKind::Softdep => text.put_all(&[b"softdep ", name, b" ", stated, b"\n"]),
-        StatedKind::Symbol => text.put_all(&[b"alias symbol:", stated, b" ", name, b"\n"]),
-    }
-}
-
-/// Puts the lines of the module of this name.
-fn put_lines(
-    text: &mut Text,
-    kind: StatedKind,
-    name: &[u8],
-    all: &[Statement<'_>],
-) -> Result<(), AllocError>
-    ensures { OnOk result
-        (text.new
-        ≡ with_piece text.old
-        (lines_text (map (λ stated. line_of kind name.now stated.0) all.now))) }
-{
-    for stated in all {
-        put_line(text, kind, name, stated.text)?;
-    }
-    Ok(())
-}
-
-/// Returns the heading of a kind's file.
-fn heading(kind: StatedKind) -> &'static [u8]
-    ensures { result.now ≡ heading kind }
-{
-    match kind {
-        StatedKind::Alias => b"# Aliases extracted from modules themselves.",
-        StatedKind::Softdep => b"# Soft dependencies extracted from modules themselves.",
-        StatedKind::Symbol => b"# Aliases for symbols, used by symbol_request().",
-    }
-}
-
-/// Puts the text of a kind's file.
-fn put_text(
-    text: &mut Text,
-    kind: StatedKind,
-    tree: &TreeFacts,
-    lists: &[Vec<Statement<'_>>],
-) -> Result<(), AllocError>
-    requires { AreStated kind tree.now lists.now }
-    ensures { OnOk result (text.new ≡ with_piece text.old (text_of kind tree.now)) }
-{
-    text.put_all(&[heading(kind), b"\n"])?;
-    let modules = tree.as_slice();
-    for place in 0..modules.len() {
-        let name = modules[place].name.as_bytes();
-        put_lines(text, kind, name, &lists[place])?;
-    }
-    Ok(())
-}
-
 /// Returns the text of a kind's file: a heading, and the lines of each module. depmod(8).
 pub(crate) fn stated_text(
     alloc: Global,
@@ -292,26 +105,6 @@ pub(crate) fn stated_text(
     Ok(text.into_bytes(alloc))
 }
 
-/// Puts the values of the module at a place into a kind's map.
-fn add_values(
-    key_map: &mut KeyMap,
-    place: u32,
-    name: &[u8],
-    all: &[Statement<'_>],
-) -> Result<(), AllocError>
-    requires name { IsTrue (is_graphic name.now) }
-    requires keys { All (λ stated. IfSome stated.1 IsKey) all.now }
-    ensures { OnOk result
-        (key_map.new ≡ with_values key_map.old (values_with place name.now all.now)) }
-{
-    for stated in all {
-        if let Some(key) = &stated.key {
-            key_map.add(key.as_bytes(), place, name)?;
-        }
-    }
-    Ok(())
-}
-
 /// Makes the map of a kind's index. Its keys are what is stated, and its values are the names of
 /// the modules that state it. The priority of a value is the module's place in the tree. depmod(8).
 pub(crate) fn stated_map(
@@ -332,4 +125,211 @@ pub(crate) fn stated_map(
         add_values(&mut map, place as u32, name, &lists[place])?;
     }
     Ok(map)
+}
+
+/// Returns the aliases of a module that can be used.
+fn aliases(alloc: Global, facts: &Facts) -> Result<Vec<Statement<'_>>, AllocError>
+    ensures { IfOk result
+        (λ stated. stated.items ≡ map (statement StatedKind.Alias) (aliases_of facts.now)) }
+{
+    let mut usable = Vec::new(alloc);
+    for alias in facts.aliases.as_slice() {
+        if let Some(stated) = usable_alias(alloc, alias.as_bytes())? {
+            usable.push(stated)?;
+        }
+    }
+    Ok(usable)
+}
+
+/// Returns the texts of a module's softdeps that can be used. They have no keys.
+fn softdeps(alloc: Global, facts: &Facts) -> Result<Vec<Statement<'_>>, AllocError>
+    ensures { IfOk result
+        (λ stated. stated.items ≡ map (statement StatedKind.Softdep) (softdeps_of facts.now)) }
+{
+    let mut usable = Vec::new(alloc);
+    for text in facts.softdeps.as_slice() {
+        let text = text.as_bytes();
+        if is_usable_softdep(text) {
+            usable.push(Statement { text, key: None })?;
+        }
+    }
+    Ok(usable)
+}
+
+/// Returns the names of the symbols that a module exports.
+fn symbols(alloc: Global, facts: &Facts) -> Result<Vec<Statement<'_>>, AllocError>
+    ensures { IfOk result
+        (λ stated. stated.items ≡ map (statement StatedKind.Symbol) (symbols_of facts.now)) }
+{
+    let mut names = Vec::new(alloc);
+    for export in facts.exports.as_slice() {
+        let text = export.name.as_bytes();
+        names.push(Statement {
+            text,
+            key: Some(symbol_key(alloc, text)?),
+        })?;
+    }
+    Ok(names)
+}
+
+/// Collects what the modules of a tree state of a kind.
+fn all_stated(
+    alloc: Global,
+    kind: StatedKind,
+    tree: &TreeFacts,
+) -> Result<Vec<Vec<Statement<'_>>>, AllocError>
+    ensures { IfOk result (λ all. AreStated kind tree.now all.items) }
+{
+    let mut all = Vec::new(alloc);
+    for facts in tree.as_slice() {
+        all.push(stated_by(alloc, kind, facts)?)?;
+    }
+    Ok(all)
+}
+
+/// Puts the text of a kind's file.
+fn put_text(
+    text: &mut Text,
+    kind: StatedKind,
+    tree: &TreeFacts,
+    lists: &[Vec<Statement<'_>>],
+) -> Result<(), AllocError>
+    requires { AreStated kind tree.now lists.now }
+    ensures { OnOk result (text.new ≡ with_piece text.old (text_of kind tree.now)) }
+{
+    text.put_all(&[heading(kind), b"\n"])?;
+    let modules = tree.as_slice();
+    for place in 0..modules.len() {
+        let name = modules[place].name.as_bytes();
+        put_lines(text, kind, name, &lists[place])?;
+    }
+    Ok(())
+}
+
+/// Puts the values of the module at a place into a kind's map.
+fn add_values(
+    key_map: &mut KeyMap,
+    place: u32,
+    name: &[u8],
+    all: &[Statement<'_>],
+) -> Result<(), AllocError>
+    requires name { IsTrue (is_graphic name.now) }
+    requires keys { All (λ stated. IfSome stated.1 IsKey) all.now }
+    ensures { OnOk result
+        (key_map.new ≡ with_values key_map.old (values_with place name.now all.now)) }
+{
+    for stated in all {
+        if let Some(key) = &stated.key {
+            key_map.add(key.as_bytes(), place, name)?;
+        }
+    }
+    Ok(())
+}
+
+/// Returns an alias with its normal form, if it can be used: it is a word of visible characters,
+/// and has a normal form.
+#[tactic(auto, unfolding(crate::specs::Stated::is_usable_alias))]
+fn usable_alias(alloc: Global, alias: &[u8]) -> Result<Option<Statement<'_>>, AllocError>
+    ensures { IfOk result
+        (λ found. found
+        ≡ (if is_usable_alias alias.now
+        then Some (statement StatedKind.Alias alias.now)
+        else None)) }
+{
+    if !is_graphic(alias) {
+        return Ok(None);
+    }
+    match normal_alias(alloc, alias)? {
+        Some(form) => Ok(Some(Statement {
+            text: alias,
+            key: Some(Blob::from_vec(form.into_vec())),
+        })),
+        None => Ok(None),
+    }
+}
+
+/// Returns whether the text of a softdep can be used. It has only visible characters and spaces, at
+/// least one character that isn't a space, and no mark of continuation at its end.
+#[tactic(auto, unfolding(crate::specs::Stated::is_usable_softdep))]
+fn is_usable_softdep(text: &[u8]) -> bool
+    ensures { result ≡ is_usable_softdep text.now }
+{
+    is_printable(text) && !is_spaces(text) && !text.ends_with(b"\\")
+}
+
+/// Returns the key of a symbol.
+fn symbol_key(alloc: Global, symbol: &[u8]) -> Result<Blob, AllocError>
+    ensures { IfOk result (λ key. key ≡ codes "symbol:" ++ symbol.now) }
+{
+    let mut key = Blob::from_slice(alloc, b"symbol:")?;
+    key.extend(symbol)?;
+    Ok(key)
+}
+
+/// Returns what a module states of a kind.
+fn stated_by(
+    alloc: Global,
+    kind: StatedKind,
+    facts: &Facts,
+) -> Result<Vec<Statement<'_>>, AllocError>
+    ensures { IfOk result (λ stated. stated.items ≡ statements kind facts.now) }
+{
+    match kind {
+        StatedKind::Alias => aliases(alloc, facts),
+        StatedKind::Softdep => softdeps(alloc, facts),
+        StatedKind::Symbol => symbols(alloc, facts),
+    }
+}
+
+/// Returns the heading of a kind's file.
+fn heading(kind: StatedKind) -> &'static [u8]
+    ensures { result.now ≡ heading kind }
+{
+    match kind {
+        StatedKind::Alias => b"# Aliases extracted from modules themselves.",
+        StatedKind::Softdep => b"# Soft dependencies extracted from modules themselves.",
+        StatedKind::Symbol => b"# Aliases for symbols, used by symbol_request().",
+    }
+}
+
+/// Puts the lines of the module of this name.
+fn put_lines(
+    text: &mut Text,
+    kind: StatedKind,
+    name: &[u8],
+    all: &[Statement<'_>],
+) -> Result<(), AllocError>
+    ensures { OnOk result
+        (text.new
+        ≡ with_piece text.old
+        (lines_text (map (λ stated. line_of kind name.now stated.0) all.now))) }
+{
+    for stated in all {
+        put_line(text, kind, name, stated.text)?;
+    }
+    Ok(())
+}
+
+fn is_printable(text: &[u8]) -> bool
+    ensures { result ≡ list_all is_printable text.now }
+{
+    text.iter().all(|b| b.is_ascii_graphic() || *b == b' ')
+}
+
+fn is_spaces(text: &[u8]) -> bool
+    ensures { result ≡ list_all (λ b. b == 32) text.now }
+{
+    text.iter().all(|b| *b == b' ')
+}
+
+/// Puts a line of the module of this name.
+fn put_line(text: &mut Text, kind: StatedKind, name: &[u8], stated: &[u8]) -> Result<(), AllocError>
+    ensures { OnOk result
+        (text.new ≡ with_piece text.old (ended (line_of kind name.now stated.now))) }
+{
+    match kind {
+        StatedKind::Alias => text.put_all(&[b"alias ", stated, b" ", name, b"\n"]),
+        StatedKind::Softdep => text.put_all(&[b"softdep ", name, b" ", stated, b"\n"]),
+        StatedKind::Symbol => text.put_all(&[b"alias symbol:", stated, b" ", name, b"\n"]),
+    }
 }

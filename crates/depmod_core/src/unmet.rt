@@ -13,52 +13,30 @@ use provider_rel::{Obstacles, Unbound};
 use std::alloc::{AllocError, Global};
 use unmet_file::LineKind;
 
-/// Puts a line of a word and two names, with its line end.
-fn put_two(text: &mut Text, word: &[u8], first: &[u8], second: &[u8]) -> Result<(), AllocError>
-    ensures { OnOk result
-        (text.new
-        ≡ with_piece text.old (ended (two_text word.now (two_text first.now second.now)))) }
+/// Returns the text of modules.unmet.
+pub(crate) fn unmet_text(alloc: Global, lines: &Obstacles) -> Result<Blob, OutputFault>
+    ensures ok { IfOk result (λ bytes. bytes ≡ file_text lines.now) }
+    ensures passed { OnOk result (size_fault OutputFile.Unmet (file_text lines.now) ≡ None) }
+    ensures err { IfErr result
+        (λ fault. (fault ≡ OutputFault.Memory)
+        ⊎ (size_fault OutputFile.Unmet (file_text lines.now) ≡ Some fault)) }
 {
-    text.put_all(&[word, b" ", first, b" ", second, b"\n"])
+    let mut measured = Text::measured();
+    put_lines(&mut measured, lines)?;
+    let mut text = Text::with_capacity(alloc, measured.checked_length(alloc, OutputFile::Unmet)?)?;
+    put_lines(&mut text, lines)?;
+    Ok(text.into_bytes(alloc))
 }
 
-/// Puts a line of a word and three names, with its line end.
-fn put_three(
-    text: &mut Text,
-    word: &[u8],
-    first: &[u8],
-    second: &[u8],
-    third: &[u8],
-) -> Result<(), AllocError>
-    ensures { OnOk result
-        (text.new
-        ≡ with_piece text.old
-        (ended (two_text word.now (three_text first.now second.now third.now)))) }
+/// Puts the text of modules.unmet.
+#[tactic(auto, unfolding(unmet_file::specs::Unmet::file_text))]
+fn put_lines(text: &mut Text, lines: &Obstacles) -> Result<(), AllocError>
+    ensures { OnOk result (text.new ≡ with_piece text.old (file_text lines.now)) }
 {
-    text.put_all(&[word, b" ", first, b" ", second, b" ", third, b"\n"])
-}
-
-/// Puts a line that names a module, a symbol and the module that provides it.
-fn put_use(
-    text: &mut Text,
-    kind: LineKind,
-    path: &PathText,
-    symbol: &Name,
-    provider: &PathText,
-) -> Result<(), AllocError>
-    ensures { OnOk result
-        (text.new
-        ≡ with_piece text.old
-        (ended
-        (two_text (first_word kind) (three_text path.now symbol.now provider.now)))) }
-{
-    put_three(
-        text,
-        kind.word(),
-        path.as_bytes(),
-        symbol.as_bytes(),
-        provider.as_bytes(),
-    )
+    for line in lines.as_slice() {
+        put_line(text, line)?;
+    }
+    Ok(())
 }
 
 /// Puts a line of modules.unmet, with its line end.
@@ -102,28 +80,50 @@ fn put_line(text: &mut Text, line: &Unbound) -> Result<(), AllocError>
     }
 }
 
-/// Puts the text of modules.unmet.
-#[tactic(auto, unfolding(unmet_file::specs::Unmet::file_text))]
-fn put_lines(text: &mut Text, lines: &Obstacles) -> Result<(), AllocError>
-    ensures { OnOk result (text.new ≡ with_piece text.old (file_text lines.now)) }
+/// Puts a line of a word and two names, with its line end.
+fn put_two(text: &mut Text, word: &[u8], first: &[u8], second: &[u8]) -> Result<(), AllocError>
+    ensures { OnOk result
+        (text.new
+        ≡ with_piece text.old (ended (two_text word.now (two_text first.now second.now)))) }
 {
-    for line in lines.as_slice() {
-        put_line(text, line)?;
-    }
-    Ok(())
+    text.put_all(&[word, b" ", first, b" ", second, b"\n"])
 }
 
-/// Returns the text of modules.unmet.
-pub(crate) fn unmet_text(alloc: Global, lines: &Obstacles) -> Result<Blob, OutputFault>
-    ensures ok { IfOk result (λ bytes. bytes ≡ file_text lines.now) }
-    ensures passed { OnOk result (size_fault OutputFile.Unmet (file_text lines.now) ≡ None) }
-    ensures err { IfErr result
-        (λ fault. (fault ≡ OutputFault.Memory)
-        ⊎ (size_fault OutputFile.Unmet (file_text lines.now) ≡ Some fault)) }
+/// Puts a line that names a module, a symbol and the module that provides it.
+fn put_use(
+    text: &mut Text,
+    kind: LineKind,
+    path: &PathText,
+    symbol: &Name,
+    provider: &PathText,
+) -> Result<(), AllocError>
+    ensures { OnOk result
+        (text.new
+        ≡ with_piece text.old
+        (ended
+        (two_text (first_word kind) (three_text path.now symbol.now provider.now)))) }
 {
-    let mut measured = Text::measured();
-    put_lines(&mut measured, lines)?;
-    let mut text = Text::with_capacity(alloc, measured.checked_length(alloc, OutputFile::Unmet)?)?;
-    put_lines(&mut text, lines)?;
-    Ok(text.into_bytes(alloc))
+    put_three(
+        text,
+        kind.word(),
+        path.as_bytes(),
+        symbol.as_bytes(),
+        provider.as_bytes(),
+    )
+}
+
+/// Puts a line of a word and three names, with its line end.
+fn put_three(
+    text: &mut Text,
+    word: &[u8],
+    first: &[u8],
+    second: &[u8],
+    third: &[u8],
+) -> Result<(), AllocError>
+    ensures { OnOk result
+        (text.new
+        ≡ with_piece text.old
+        (ended (two_text word.now (three_text first.now second.now third.now)))) }
+{
+    text.put_all(&[word, b" ", first, b" ", second, b" ", third, b"\n"])
 }

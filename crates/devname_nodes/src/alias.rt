@@ -16,15 +16,28 @@ pub(crate) struct DeviceNumber {
     pub(crate) minor: u32,
 }
 
-/// Returns what follows a prefix, if the text begins with it.
-fn after<'a>(prefix: &[u8], text: &'a [u8]) -> Option<&'a [u8]>
-    ensures { option_map (λ rest. rest.now) result ≡ after_prefix prefix.now text.now }
+/// Returns the first device that aliases name.
+pub(crate) fn first_device(aliases: &[Blob]) -> Option<&[u8]>
+    ensures { option_map (λ device. device.now) result ≡ first (map device_of aliases.now) }
 {
-    if text.starts_with(prefix) {
-        Some(&text[prefix.len()..])
-    } else {
-        None
+    for text in aliases {
+        if let Some(device) = device_of(text.as_bytes()) {
+            return Some(device);
+        }
     }
+    None
+}
+
+/// Returns the first device number that aliases state.
+pub(crate) fn first_number(aliases: &[Blob]) -> Option<DeviceNumber>
+    ensures { result ≡ first (map number_of aliases.now) }
+{
+    for alias in aliases {
+        if let Some(number) = number_of(alias.as_bytes()) {
+            return Some(number);
+        }
+    }
+    None
 }
 
 /// Returns the device that an alias names: what follows `devname:`, if it is a word of visible
@@ -61,26 +74,13 @@ fn number_of(alias: &[u8]) -> Option<DeviceNumber>
     })
 }
 
-/// Returns the first device that aliases name.
-pub(crate) fn first_device(aliases: &[Blob]) -> Option<&[u8]>
-    ensures { option_map (λ device. device.now) result ≡ first (map device_of aliases.now) }
+/// Returns what follows a prefix, if the text begins with it.
+fn after<'a>(prefix: &[u8], text: &'a [u8]) -> Option<&'a [u8]>
+    ensures { option_map (λ rest. rest.now) result ≡ after_prefix prefix.now text.now }
 {
-    for text in aliases {
-        if let Some(device) = device_of(text.as_bytes()) {
-            return Some(device);
-        }
+    if text.starts_with(prefix) {
+        Some(&text[prefix.len()..])
+    } else {
+        None
     }
-    None
-}
-
-/// Returns the first device number that aliases state.
-pub(crate) fn first_number(aliases: &[Blob]) -> Option<DeviceNumber>
-    ensures { result ≡ first (map number_of aliases.now) }
-{
-    for alias in aliases {
-        if let Some(number) = number_of(alias.as_bytes()) {
-            return Some(number);
-        }
-    }
-    None
 }

@@ -9,26 +9,6 @@ use km_names::{Blob, Name, trimmed};
 use std::alloc::{AllocError, Global};
 use unmet_file::three_words;
 
-/// Returns whether the letter means a block device, if it means a block or a character device.
-fn kind_of(letter: u8) -> Option<bool>
-    ensures { result ≡ kind_of letter }
-{
-    match letter {
-        b'b' => Some(true),
-        b'c' => Some(false),
-        _ => None,
-    }
-}
-
-/// Returns the kind and the numbers of the last word of a line.
-fn device_word(text: &[u8]) -> Option<(bool, (u32, u32))>
-    ensures { result ≡ device_word text.now }
-{
-    let block = kind_of(*text.first()?)?;
-    let numbers = plain_numbers(&text[1..])?;
-    Some((block, numbers))
-}
-
 /// Returns the node that a line states, if it states one.
 #[tactic(auto, unfolding(crate::specs::Line::line_node))]
 pub(crate) fn read_line(alloc: Global, line: &[u8]) -> Result<Option<Node>, AllocError>
@@ -57,4 +37,24 @@ pub(crate) fn is_ignored(line: &[u8]) -> bool
     ensures { result ≡ is_ignored line.now }
 {
     is_comment(line) || trimmed(line).is_empty()
+}
+
+/// Returns the kind and the numbers of the last word of a line.
+fn device_word(text: &[u8]) -> Option<(bool, (u32, u32))>
+    ensures { result ≡ device_word text.now }
+{
+    let block = kind_of(*text.first()?)?;
+    let numbers = plain_numbers(&text[1..])?;
+    Some((block, numbers))
+}
+
+/// Returns whether the letter means a block device, if it means a block or a character device.
+fn kind_of(letter: u8) -> Option<bool>
+    ensures { result ≡ kind_of letter }
+{
+    match letter {
+        b'b' => Some(true),
+        b'c' => Some(false),
+        _ => None,
+    }
 }

@@ -32,6 +32,25 @@ pub(crate) fn is_comment(text: &[u8]) -> bool
     !text.is_empty() && text[0] == b'#'
 }
 
+/// Returns the device nodes of the modules of a tree, in its order. A module has one if its name
+/// doesn't begin with `#`, and its aliases have a device and a device number. The device is in a
+/// `devname:DEVICE` whose DEVICE is a word of visible characters. The number is in a
+/// `char-major-M-N` or a `block-major-M-N`, each part of 1 to 10 decimal digits and below 2^32. The
+/// first of either counts. kmod's depmod, modules.devname.
+#[tactic(auto, unfolding(crate::specs::Nodes::nodes_of))]
+pub fn nodes(alloc: Global, tree: &TreeFacts) -> Result<NodeList, AllocError>
+    ensures { IfOk result (λ list. list ≡ nodes_of tree.now) }
+{
+    let mut list = NodeList::new(alloc);
+    for facts in tree.as_slice() {
+        let made = node_of(alloc, facts)?;
+        if let Some(node) = made {
+            list.push(node)?;
+        }
+    }
+    Ok(list)
+}
+
 /// Returns the node of a module, if it has one.
 #[tactic(auto, unfolding(crate::specs::Nodes::node_of))]
 fn node_of(alloc: Global, facts: &Facts) -> Result<Option<Node>, AllocError>
@@ -51,23 +70,4 @@ fn node_of(alloc: Global, facts: &Facts) -> Result<Option<Node>, AllocError>
         })),
         _ => Ok(None),
     }
-}
-
-/// Returns the device nodes of the modules of a tree, in its order. A module has one if its name
-/// doesn't begin with `#`, and its aliases have a device and a device number. The device is in a
-/// `devname:DEVICE` whose DEVICE is a word of visible characters. The number is in a
-/// `char-major-M-N` or a `block-major-M-N`, each part of 1 to 10 decimal digits and below 2^32. The
-/// first of either counts. kmod's depmod, modules.devname.
-#[tactic(auto, unfolding(crate::specs::Nodes::nodes_of))]
-pub fn nodes(alloc: Global, tree: &TreeFacts) -> Result<NodeList, AllocError>
-    ensures { IfOk result (λ list. list ≡ nodes_of tree.now) }
-{
-    let mut list = NodeList::new(alloc);
-    for facts in tree.as_slice() {
-        let made = node_of(alloc, facts)?;
-        if let Some(node) = made {
-            list.push(node)?;
-        }
-    }
-    Ok(list)
 }

@@ -24,39 +24,6 @@ pub(crate) fn number(text: &[u8]) -> Option<u32>
     }
 }
 
-fn are_digits(text: &[u8]) -> bool
-    ensures { result ≡ list_all (λ b. is_digit b 10) text.now }
-{
-    text.iter().all(|b| char::from(*b).is_digit(10))
-}
-
-/// Returns the number that the digits state, the highest digit first.
-fn digits_value(digits: &[u8]) -> u64
-    requires few { length digits.now ≤ 10 }
-    requires digits { IsTrue (list_all (λ b. is_digit b 10) digits.now) }
-    ensures { result ≡ digits_value 10 digits.now }
-{
-    let mut number = 0;
-    for i in 0..digits.len() {
-        number = number * 10 + digit_value(digits[i]);
-    }
-    number
-}
-
-/// Returns the value of a digit, 0 to 9.
-fn digit_value(digit: u8) -> u64
-    requires { IsTrue (is_digit digit 10) }
-    ensures { result ≡ digit_value digit }
-{
-    u64::from(digit - b'0')
-}
-
-fn has_leading_zero(text: &[u8]) -> bool
-    ensures { result ≡ has_leading_zero text.now }
-{
-    text.len() > 1 && text[0] == b'0'
-}
-
 /// Returns the number that a text states without a zero before its first digit.
 pub(crate) fn plain_number(text: &[u8]) -> Option<u32>
     ensures { result ≡ plain_number text.now }
@@ -85,4 +52,37 @@ pub(crate) fn plain_numbers(text: &[u8]) -> Option<(u32, u32)>
     let major = plain_number(first)?;
     let minor = plain_number(second)?;
     Some((major, minor))
+}
+
+fn are_digits(text: &[u8]) -> bool
+    ensures { result ≡ list_all (λ b. is_digit b 10) text.now }
+{
+    text.iter().all(|b| char::from(*b).is_digit(10))
+}
+
+/// Returns the number that the digits state, the highest digit first.
+fn digits_value(digits: &[u8]) -> u64
+    requires few { length digits.now ≤ 10 }
+    requires digits { IsTrue (list_all (λ b. is_digit b 10) digits.now) }
+    ensures { result ≡ digits_value 10 digits.now }
+{
+    let mut number = 0;
+    for i in 0..digits.len() {
+        number = number * 10 + digit_value(digits[i]);
+    }
+    number
+}
+
+fn has_leading_zero(text: &[u8]) -> bool
+    ensures { result ≡ has_leading_zero text.now }
+{
+    text.len() > 1 && text[0] == b'0'
+}
+
+/// Returns the value of a digit, 0 to 9.
+fn digit_value(digit: u8) -> u64
+    requires { IsTrue (is_digit digit 10) }
+    ensures { result ≡ digit_value digit }
+{
+    u64::from(digit - b'0')
 }

@@ -6,32 +6,6 @@ use crate::{Node, NodeList};
 use km_names::Blob;
 use std::alloc::{AllocError, Global};
 
-/// Puts the line of a node at the end.
-#[tactic(auto, unfolding(crate::specs::Line::node_line))]
-fn push_line(alloc: Global, text: &mut Blob, node: &Node) -> Result<(), AllocError>
-    ensures { OnOk result (text.new ≡ text.old ++ (node_line node.now ++ 10 ∷ [])) }
-{
-    let (major, minor) = (node.major, node.minor);
-    let number = format!(in alloc; "{major}:{minor}")?;
-    text.extend(node.module.as_bytes())?;
-    text.push(b' ')?;
-    text.extend(node.device.as_bytes())?;
-    text.push(b' ')?;
-    text.push(if node.block { b'b' } else { b'c' })?;
-    text.extend(number.as_bytes())?;
-    text.push(b'\n')
-}
-
-/// Puts a line for each node at the end.
-fn push_lines(alloc: Global, text: &mut Blob, nodes: &NodeList) -> Result<(), AllocError>
-    ensures { OnOk result (text.new ≡ text.old ++ lines_text nodes.now) }
-{
-    for node in nodes.as_slice() {
-        push_line(alloc, text, node)?;
-    }
-    Ok(())
-}
-
 /// Returns the lines of nodes, in the order of the list. Each is a line `MODULE DEVICE TM:N` with T
 /// being `c` or `b`, the numbers without leading zeros. Each ends with a line end.
 pub fn node_lines(alloc: Global, nodes: &NodeList) -> Result<Blob, AllocError>
@@ -54,4 +28,30 @@ pub fn nodes_text(alloc: Global, nodes: &NodeList) -> Result<Blob, AllocError>
     )?;
     push_lines(alloc, &mut text, nodes)?;
     Ok(text)
+}
+
+/// Puts a line for each node at the end.
+fn push_lines(alloc: Global, text: &mut Blob, nodes: &NodeList) -> Result<(), AllocError>
+    ensures { OnOk result (text.new ≡ text.old ++ lines_text nodes.now) }
+{
+    for node in nodes.as_slice() {
+        push_line(alloc, text, node)?;
+    }
+    Ok(())
+}
+
+/// Puts the line of a node at the end.
+#[tactic(auto, unfolding(crate::specs::Line::node_line))]
+fn push_line(alloc: Global, text: &mut Blob, node: &Node) -> Result<(), AllocError>
+    ensures { OnOk result (text.new ≡ text.old ++ (node_line node.now ++ 10 ∷ [])) }
+{
+    let (major, minor) = (node.major, node.minor);
+    let number = format!(in alloc; "{major}:{minor}")?;
+    text.extend(node.module.as_bytes())?;
+    text.push(b' ')?;
+    text.extend(node.device.as_bytes())?;
+    text.push(b' ')?;
+    text.push(if node.block { b'b' } else { b'c' })?;
+    text.extend(number.as_bytes())?;
+    text.push(b'\n')
 }

@@ -81,20 +81,24 @@ impl Span {
     }
 }
 
-/// Returns the bytes of a place, if it changes any.
-fn span_of(place: &RelaPlace) -> Option<Span>
-    requires { IsNear place.now }
-    ensures { MatchOption result (place_width place.now ≡ 0) (λ s. IsSpanOf place.now s) }
+/// Returns the least byte that two places share. Places in order, as tools write them, take no
+/// memory.
+pub(crate) fn find_shared(
+    alloc: Global,
+    places: &[RelaPlace],
+    order: &Order,
+) -> Result<Option<u64>, AllocError>
+    requires near { All IsNear places.now }
+    requires order { IsOrderOf order.now places.now }
+    ensures { IfOk result
+        (λ r. IsLeastShared (λ a. count_at place_start place_end a places.now) r) }
 {
-    let width = width(place.kind).unwrap_or(0);
-    if width == 0 {
-        return None;
+    if order.holds {
+        return Ok(None);
     }
-    Some(Span {
-        offset: place.offset as u32,
-        target: place.target as u16,
-        width,
-    })
+    let mut spans = spans_of(alloc, places)?;
+    spans.sort_unstable_by_key(|span| span.start());
+    Ok(first_shared(&spans))
 }
 
 /// Returns the bytes of each place that changes any.
@@ -131,22 +135,18 @@ fn first_shared(spans: &[Span]) -> Option<u64>
     None
 }
 
-/// Returns the least byte that two places share. Places in order, as tools write them, take no
-/// memory.
-pub(crate) fn find_shared(
-    alloc: Global,
-    places: &[RelaPlace],
-    order: &Order,
-) -> Result<Option<u64>, AllocError>
-    requires near { All IsNear places.now }
-    requires order { IsOrderOf order.now places.now }
-    ensures { IfOk result
-        (λ r. IsLeastShared (λ a. count_at place_start place_end a places.now) r) }
+/// Returns the bytes of a place, if it changes any.
+fn span_of(place: &RelaPlace) -> Option<Span>
+    requires { IsNear place.now }
+    ensures { MatchOption result (place_width place.now ≡ 0) (λ s. IsSpanOf place.now s) }
 {
-    if order.holds {
-        return Ok(None);
+    let width = width(place.kind).unwrap_or(0);
+    if width == 0 {
+        return None;
     }
-    let mut spans = spans_of(alloc, places)?;
-    spans.sort_unstable_by_key(|span| span.start());
-    Ok(first_shared(&spans))
+    Some(Span {
+        offset: place.offset as u32,
+        target: place.target as u16,
+        width,
+    })
 }

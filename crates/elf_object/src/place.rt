@@ -36,13 +36,6 @@ pub struct RelaPlace {
     pub addend: i64,
 }
 
-/// Returns a number of 64 bits as two's complement. gABI 4, "Data Representation", Elf64_Sxword.
-fn signed(bits: u64) -> i64
-    ensures { result ≡ signed bits }
-{
-    bits.cast_signed()
-}
-
 /// Returns the relocation `entry` of a section of these bytes.
 #[tactic(auto, unfolding(crate::specs::Places::place_in))]
 pub(crate) fn place_at(table: &[u8], section: u32, target: u32, entry: u32) -> RelaPlace
@@ -59,16 +52,6 @@ pub(crate) fn place_at(table: &[u8], section: u32, target: u32, entry: u32) -> R
         symbol: (info / (1 << 32)) as u32,
         kind: (info % (1 << 32)) as u32,
         addend: signed(le_u64_at(table, at + 16)),
-    }
-}
-
-/// Returns whether a symbol lies in a section that isn't kept.
-fn is_unkept(sections: &[SectionRef], symbol: &SymbolRef) -> bool
-    ensures { result ≡ lies_unkept (map owned_section sections.now) (owned_symbol symbol.now) }
-{
-    match sections.get(usize::from(symbol.section)) {
-        Some(found) => symbol.section != SHN_UNDEF && !found.kept,
-        None => false,
     }
 }
 
@@ -102,17 +85,6 @@ pub(crate) fn room_in(section: SectionRef) -> u64
     }
 }
 
-/// Returns whether a place that changes `size` bytes is invalid in a section with `room` bytes.
-/// `unkept` is whether its symbol lies in a section that isn't kept.
-#[tactic(auto, unfolding(crate::specs::Places::is_bad_place))]
-fn is_bad_place(unkept: bool, room: u64, place: &RelaPlace, size: u8) -> bool
-    requires { width place.now.kind ≡ Some size }
-    ensures { result ≡ is_bad_place unkept room place.now }
-{
-    let size = u64::from(size);
-    room < size || room - size < place.offset || unkept
-}
-
 /// Tests a place in a section with `room` bytes, by what is known of the symbols, and returns how
 /// many bytes it changes.
 #[tactic(auto, unfolding(crate::specs::Places::place_test))]
@@ -138,4 +110,32 @@ pub(crate) fn check_place(unkept: &[bool], room: u64, place: &RelaPlace) -> Resu
         return Err(ObjectFault::BadRela { section, entry });
     }
     Ok(size)
+}
+
+/// Returns a number of 64 bits as two's complement. gABI 4, "Data Representation", Elf64_Sxword.
+fn signed(bits: u64) -> i64
+    ensures { result ≡ signed bits }
+{
+    bits.cast_signed()
+}
+
+/// Returns whether a symbol lies in a section that isn't kept.
+fn is_unkept(sections: &[SectionRef], symbol: &SymbolRef) -> bool
+    ensures { result ≡ lies_unkept (map owned_section sections.now) (owned_symbol symbol.now) }
+{
+    match sections.get(usize::from(symbol.section)) {
+        Some(found) => symbol.section != SHN_UNDEF && !found.kept,
+        None => false,
+    }
+}
+
+/// Returns whether a place that changes `size` bytes is invalid in a section with `room` bytes.
+/// `unkept` is whether its symbol lies in a section that isn't kept.
+#[tactic(auto, unfolding(crate::specs::Places::is_bad_place))]
+fn is_bad_place(unkept: bool, room: u64, place: &RelaPlace, size: u8) -> bool
+    requires { width place.now.kind ≡ Some size }
+    ensures { result ≡ is_bad_place unkept room place.now }
+{
+    let size = u64::from(size);
+    room < size || room - size < place.offset || unkept
 }

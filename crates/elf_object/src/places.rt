@@ -27,12 +27,56 @@ use std::alloc::{AllocError, Global};
 /// have. Only tables that share their bytes have more.
 const TABLE_LIMIT: usize = 4 * FILE_LIMIT;
 
-/// Returns whether an alignment is a power of two of at most a page, or 0.
-#[tactic(auto, unfolding(crate::specs::Places::is_alignment))]
-fn is_alignment(align: u64) -> bool
-    ensures { result ≡ is_alignment align }
+/// Reads the places of a file, by what is known of its symbols, and tests the sections that they
+/// change.
+pub(crate) fn read_places(
+    alloc: Global,
+    sections: &SectionTable,
+    unkept: &[bool],
+) -> Result<List<RelaPlace>, ObjectFault>
+    requires small { length sections.now.file ≤ file_limit }
+    requires read { IsRead sections.now.file sections.now.list }
+    requires fit { TablesFit sections.now.file }
+    requires unkept { unkept.now
+        ≡ unkept_flags (sections_of sections.now.file) (symbols_of sections.now.file) }
+    ensures places { IfOk result (λ l. l ≡ places_of sections.now.file) }
+    ensures passed { OnOk result (first (place_tests sections.now.file) ≡ None) }
+    ensures fault { IfErr result
+        (λ e. (e ≡ ObjectFault.Memory) ⊎ (first (place_tests sections.now.file) ≡ Some e)) }
 {
-    align <= PAGE && (align == 0 || align.is_power_of_two())
+    check_alignments(sections)?;
+    let mut met = MetPlaces::listing(alloc, relocation_count(sections)?)?;
+    meet_places(sections, unkept, &mut met)?;
+    check_overlaps(alloc, sections, &met.list, &met.order)?;
+    let MetPlaces { list, .. } = met;
+    Ok(List::from_vec(list))
+}
+
+/// Tests the places of a file, by what is known of its symbols, and the sections that they change.
+/// Places in order take no memory.
+pub(crate) fn check_places(
+    alloc: Global,
+    sections: &SectionTable,
+    unkept: &[bool],
+) -> Result<(), ObjectFault>
+    requires small { length sections.now.file ≤ file_limit }
+    requires read { IsRead sections.now.file sections.now.list }
+    requires fit { TablesFit sections.now.file }
+    requires unkept { unkept.now
+        ≡ unkept_flags (sections_of sections.now.file) (symbols_of sections.now.file) }
+    ensures passed { OnOk result (first (place_tests sections.now.file) ≡ None) }
+    ensures fault { IfErr result
+        (λ e. (e ≡ ObjectFault.Memory) ⊎ (first (place_tests sections.now.file) ≡ Some e)) }
+{
+    check_alignments(sections)?;
+    // Tables may share their bytes, so they are added up before they are read.
+    relocation_count(sections)?;
+    let mut met = MetPlaces::testing(alloc);
+    meet_places(sections, unkept, &mut met)?;
+    if !met.order.holds {
+        read_places(alloc, sections, unkept)?;
+    }
+    Ok(())
 }
 
 /// Tests the alignments of the sections that are kept.
@@ -48,17 +92,6 @@ fn check_alignments(sections: &SectionTable) -> Result<(), ObjectFault>
         }
     }
     Ok(())
-}
-
-/// Returns whether the section `index` holds relocations of a section that is kept.
-#[tactic(auto, unfolding(crate::specs::Places::is_applied))]
-fn is_applied(sections: &SectionTable, index: u32) -> bool
-    requires fit { TablesFit sections.now.file }
-    requires index { index < length sections.now.list }
-    ensures { result ≡ is_applied sections.now.file index }
-{
-    let section = sections.section(index);
-    section.kind == SHT_RELA && sections.section(section.info).kept
 }
 
 /// Returns how many relocations of kept sections the tables have together.
@@ -80,42 +113,6 @@ fn relocation_count(sections: &SectionTable) -> Result<usize, AllocError>
         }
     }
     Ok((TABLE_LIMIT - left) / RELA_SIZE)
-}
-
-/// Meets the places of the section `index`, if it holds relocations of a section that is kept.
-/// Almost all time of a read goes to its loop, so it stays a function of its own.
-#[inline(never)]
-fn meet_section_places(
-    sections: &SectionTable,
-    unkept: &[bool],
-    index: u32,
-    met: &mut MetPlaces,
-) -> Result<(), ObjectFault>
-    requires small { length sections.now.file ≤ file_limit }
-    requires read { IsRead sections.now.file sections.now.list }
-    requires fit { TablesFit sections.now.file }
-    requires index { index < length sections.now.list }
-    requires unkept { unkept.now
-        ≡ unkept_flags (sections_of sections.now.file) (symbols_of sections.now.file) }
-    ensures met { OnOk result ((before : List RelaPlace) → HasMet met.old before
-        → HasMet met.new (before ++ section_places sections.now.file index)) }
-    ensures keeps { OnOk result (met.new.keeps ≡ met.old.keeps) }
-    ensures passed { OnOk result (rela_test sections.now.file index ≡ None) }
-    ensures fault { IfErr result (λ e. (e ≡ ObjectFault.Memory)
-        ⊎ (rela_test sections.now.file index ≡ Some e)) }
-{
-    if !is_applied(sections, index) {
-        return Ok(());
-    }
-    let number = sections.section(index).info;
-    let room = room_in(sections.section(number));
-    let table = sections.section_bytes(index);
-    for entry in 0..(table.len() / RELA_SIZE) as u32 {
-        let place = place_at(table, index, number, entry);
-        let width = check_place(unkept, room, &place)?;
-        met.meet(place, width)?;
-    }
-    Ok(())
 }
 
 /// Meets all places of a file. None was met before.
@@ -174,54 +171,57 @@ fn check_overlaps(
     }
 }
 
-/// Reads the places of a file, by what is known of its symbols, and tests the sections that they
-/// change.
-pub(crate) fn read_places(
-    alloc: Global,
-    sections: &SectionTable,
-    unkept: &[bool],
-) -> Result<List<RelaPlace>, ObjectFault>
-    requires small { length sections.now.file ≤ file_limit }
-    requires read { IsRead sections.now.file sections.now.list }
-    requires fit { TablesFit sections.now.file }
-    requires unkept { unkept.now
-        ≡ unkept_flags (sections_of sections.now.file) (symbols_of sections.now.file) }
-    ensures places { IfOk result (λ l. l ≡ places_of sections.now.file) }
-    ensures passed { OnOk result (first (place_tests sections.now.file) ≡ None) }
-    ensures fault { IfErr result
-        (λ e. (e ≡ ObjectFault.Memory) ⊎ (first (place_tests sections.now.file) ≡ Some e)) }
+/// Returns whether an alignment is a power of two of at most a page, or 0.
+#[tactic(auto, unfolding(crate::specs::Places::is_alignment))]
+fn is_alignment(align: u64) -> bool
+    ensures { result ≡ is_alignment align }
 {
-    check_alignments(sections)?;
-    let mut met = MetPlaces::listing(alloc, relocation_count(sections)?)?;
-    meet_places(sections, unkept, &mut met)?;
-    check_overlaps(alloc, sections, &met.list, &met.order)?;
-    let MetPlaces { list, .. } = met;
-    Ok(List::from_vec(list))
+    align <= PAGE && (align == 0 || align.is_power_of_two())
 }
 
-/// Tests the places of a file, by what is known of its symbols, and the sections that they change.
-/// Places in order take no memory.
-pub(crate) fn check_places(
-    alloc: Global,
+/// Returns whether the section `index` holds relocations of a section that is kept.
+#[tactic(auto, unfolding(crate::specs::Places::is_applied))]
+fn is_applied(sections: &SectionTable, index: u32) -> bool
+    requires fit { TablesFit sections.now.file }
+    requires index { index < length sections.now.list }
+    ensures { result ≡ is_applied sections.now.file index }
+{
+    let section = sections.section(index);
+    section.kind == SHT_RELA && sections.section(section.info).kept
+}
+
+/// Meets the places of the section `index`, if it holds relocations of a section that is kept.
+/// Almost all time of a read goes to its loop, so it stays a function of its own.
+#[inline(never)]
+fn meet_section_places(
     sections: &SectionTable,
     unkept: &[bool],
+    index: u32,
+    met: &mut MetPlaces,
 ) -> Result<(), ObjectFault>
     requires small { length sections.now.file ≤ file_limit }
     requires read { IsRead sections.now.file sections.now.list }
     requires fit { TablesFit sections.now.file }
+    requires index { index < length sections.now.list }
     requires unkept { unkept.now
         ≡ unkept_flags (sections_of sections.now.file) (symbols_of sections.now.file) }
-    ensures passed { OnOk result (first (place_tests sections.now.file) ≡ None) }
-    ensures fault { IfErr result
-        (λ e. (e ≡ ObjectFault.Memory) ⊎ (first (place_tests sections.now.file) ≡ Some e)) }
+    ensures met { OnOk result ((before : List RelaPlace) → HasMet met.old before
+        → HasMet met.new (before ++ section_places sections.now.file index)) }
+    ensures keeps { OnOk result (met.new.keeps ≡ met.old.keeps) }
+    ensures passed { OnOk result (rela_test sections.now.file index ≡ None) }
+    ensures fault { IfErr result (λ e. (e ≡ ObjectFault.Memory)
+        ⊎ (rela_test sections.now.file index ≡ Some e)) }
 {
-    check_alignments(sections)?;
-    // Tables may share their bytes, so they are added up before they are read.
-    relocation_count(sections)?;
-    let mut met = MetPlaces::testing(alloc);
-    meet_places(sections, unkept, &mut met)?;
-    if !met.order.holds {
-        read_places(alloc, sections, unkept)?;
+    if !is_applied(sections, index) {
+        return Ok(());
+    }
+    let number = sections.section(index).info;
+    let room = room_in(sections.section(number));
+    let table = sections.section_bytes(index);
+    for entry in 0..(table.len() / RELA_SIZE) as u32 {
+        let place = place_at(table, index, number, entry);
+        let width = check_place(unkept, room, &place)?;
+        met.meet(place, width)?;
     }
     Ok(())
 }

@@ -53,92 +53,6 @@ pub(crate) struct SymbolEntry {
     pub(crate) value: u64,
 }
 
-/// Returns the entry `index` of a symbol table.
-#[tactic(auto, unfolding(crate::specs::Symbols::symbol_entry))]
-fn symbol_entry(table: &[u8], index: u32) -> SymbolEntry
-    requires { 24 * index + 24 ≤ length table.now }
-    ensures { result ≡ symbol_entry table.now index }
-{
-    let at = SYM_SIZE * index as usize;
-    SymbolEntry {
-        name: le_u32_at(table, at),
-        info: table[at + 4],
-        section: le_u16_at(table, at + 6),
-        value: le_u64_at(table, at + 8),
-    }
-}
-
-/// Returns whether a symbol of this name is invalid, in a file of `count` sections.
-#[tactic(auto, unfolding(crate::specs::Symbols::is_bad_symbol))]
-fn is_bad_symbol(count: u32, name: &[u8], entry: &SymbolEntry) -> bool
-    ensures { result ≡ is_bad_symbol count name.now entry.now }
-{
-    let binding = entry.info / 16;
-    (SHN_LORESERVE <= entry.section && entry.section != SHN_ABS)
-        || (entry.section < SHN_LORESERVE && count <= u32::from(entry.section))
-        || STB_WEAK < binding
-        || (entry.section == SHN_UNDEF && (binding == STB_LOCAL || name.is_empty()))
-}
-
-/// Tests the section and the binding of the symbol `index` of this name.
-#[tactic(auto, unfolding(crate::specs::Symbols::kind_test))]
-fn check_kind(count: u32, name: &[u8], index: u32, entry: &SymbolEntry) -> Result<(), ObjectFault>
-    ensures { result_err result ≡ kind_test count name.now index entry.now }
-{
-    if entry.section == SHN_XINDEX {
-        return Err(ObjectFault::ExtendedIndex { index });
-    }
-    if entry.section == SHN_COMMON {
-        return Err(ObjectFault::CommonSymbol { index });
-    }
-    if is_bad_symbol(count, name, entry) {
-        return Err(ObjectFault::BadSymbol { index });
-    }
-    Ok(())
-}
-
-/// Returns the symbol `index` of a table, by its string table and the count of sections. Names may
-/// have `left` bytes more.
-#[tactic(auto, unfolding(crate::specs::Symbols::symbol_in, crate::specs::Symbols::symbol_test_in))]
-fn read_symbol<'a>(
-    table: &[u8],
-    names: &'a [u8],
-    count: u32,
-    index: u32,
-    left: usize,
-) -> Result<SymbolRef<'a>, ObjectFault>
-    requires entry { 24 * index + 24 ≤ length table.now }
-    requires left { left ≤ NAME_LIMIT }
-    ensures symbol { IfOk result (λ s. owned_symbol s ≡ symbol_in table.now names.now index) }
-    ensures within { IfOk result (λ s. length s.name.now ≤ left) }
-    ensures passed { OnOk result (symbol_test_in table.now names.now count index ≡ None) }
-    ensures fault { IfErr result
-        (λ e. (e ≡ ObjectFault.Memory)
-        ⊎ (symbol_test_in table.now names.now count index ≡ Some e)) }
-{
-    if index == 0 {
-        return Ok(SymbolRef {
-            name: &[],
-            binding: 0,
-            section: 0,
-            value: 0,
-        });
-    }
-    let entry = symbol_entry(table, index);
-    let Some(name) = string_within(names, entry.name, left)? else {
-        return Err(ObjectFault::Shape(SectionFault::BadString {
-            offset: u64::from(entry.name),
-        }));
-    };
-    check_kind(count, name, index, &entry)?;
-    Ok(SymbolRef {
-        name,
-        binding: entry.info / 16,
-        section: entry.section,
-        value: entry.value,
-    })
-}
-
 /// Returns the symbols of a table, by its string table and the count of sections. Their names
 /// together have at most `NAME_LIMIT` bytes.
 pub(crate) fn read_symbols<'a>(
@@ -202,4 +116,90 @@ pub(crate) fn borrowed_symbols<'a>(
         })?;
     }
     Ok(List::from_vec(list))
+}
+
+/// Returns the symbol `index` of a table, by its string table and the count of sections. Names may
+/// have `left` bytes more.
+#[tactic(auto, unfolding(crate::specs::Symbols::symbol_in, crate::specs::Symbols::symbol_test_in))]
+fn read_symbol<'a>(
+    table: &[u8],
+    names: &'a [u8],
+    count: u32,
+    index: u32,
+    left: usize,
+) -> Result<SymbolRef<'a>, ObjectFault>
+    requires entry { 24 * index + 24 ≤ length table.now }
+    requires left { left ≤ NAME_LIMIT }
+    ensures symbol { IfOk result (λ s. owned_symbol s ≡ symbol_in table.now names.now index) }
+    ensures within { IfOk result (λ s. length s.name.now ≤ left) }
+    ensures passed { OnOk result (symbol_test_in table.now names.now count index ≡ None) }
+    ensures fault { IfErr result
+        (λ e. (e ≡ ObjectFault.Memory)
+        ⊎ (symbol_test_in table.now names.now count index ≡ Some e)) }
+{
+    if index == 0 {
+        return Ok(SymbolRef {
+            name: &[],
+            binding: 0,
+            section: 0,
+            value: 0,
+        });
+    }
+    let entry = symbol_entry(table, index);
+    let Some(name) = string_within(names, entry.name, left)? else {
+        return Err(ObjectFault::Shape(SectionFault::BadString {
+            offset: u64::from(entry.name),
+        }));
+    };
+    check_kind(count, name, index, &entry)?;
+    Ok(SymbolRef {
+        name,
+        binding: entry.info / 16,
+        section: entry.section,
+        value: entry.value,
+    })
+}
+
+/// Returns the entry `index` of a symbol table.
+#[tactic(auto, unfolding(crate::specs::Symbols::symbol_entry))]
+fn symbol_entry(table: &[u8], index: u32) -> SymbolEntry
+    requires { 24 * index + 24 ≤ length table.now }
+    ensures { result ≡ symbol_entry table.now index }
+{
+    let at = SYM_SIZE * index as usize;
+    SymbolEntry {
+        name: le_u32_at(table, at),
+        info: table[at + 4],
+        section: le_u16_at(table, at + 6),
+        value: le_u64_at(table, at + 8),
+    }
+}
+
+/// Tests the section and the binding of the symbol `index` of this name.
+#[tactic(auto, unfolding(crate::specs::Symbols::kind_test))]
+fn check_kind(count: u32, name: &[u8], index: u32, entry: &SymbolEntry) -> Result<(), ObjectFault>
+    ensures { result_err result ≡ kind_test count name.now index entry.now }
+{
+    if entry.section == SHN_XINDEX {
+        return Err(ObjectFault::ExtendedIndex { index });
+    }
+    if entry.section == SHN_COMMON {
+        return Err(ObjectFault::CommonSymbol { index });
+    }
+    if is_bad_symbol(count, name, entry) {
+        return Err(ObjectFault::BadSymbol { index });
+    }
+    Ok(())
+}
+
+/// Returns whether a symbol of this name is invalid, in a file of `count` sections.
+#[tactic(auto, unfolding(crate::specs::Symbols::is_bad_symbol))]
+fn is_bad_symbol(count: u32, name: &[u8], entry: &SymbolEntry) -> bool
+    ensures { result ≡ is_bad_symbol count name.now entry.now }
+{
+    let binding = entry.info / 16;
+    (SHN_LORESERVE <= entry.section && entry.section != SHN_ABS)
+        || (entry.section < SHN_LORESERVE && count <= u32::from(entry.section))
+        || STB_WEAK < binding
+        || (entry.section == SHN_UNDEF && (binding == STB_LOCAL || name.is_empty()))
 }

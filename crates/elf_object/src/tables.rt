@@ -19,6 +19,28 @@ use elf_sections::{SectionTable, up_to_last_nul};
 use km_names::List;
 use std::alloc::Global;
 
+/// Reads the symbols of a file, after the tests of its tables.
+pub(crate) fn read_symbol_table<'a>(
+    alloc: Global,
+    sections: &SectionTable<'a>,
+) -> Result<List<SymbolRef<'a>>, ObjectFault>
+    requires { length sections.now.file ≤ file_limit }
+    ensures symbols { IfOk result (λ l. map owned_symbol l ≡ symbols_of sections.now.file) }
+    ensures read { IsRead sections.now.file sections.now.list }
+    ensures fit { OnOk result (TablesFit sections.now.file) }
+    ensures passed { OnOk result (first (symbol_tests sections.now.file) ≡ None) }
+    ensures fault { IfErr result
+        (λ e. (e ≡ ObjectFault.Memory) ⊎ (first (symbol_tests sections.now.file) ≡ Some e)) }
+{
+    let count = sections.section_count();
+    check_rel(sections)?;
+    let number = symbol_table(sections);
+    check_tables(sections, number)?;
+    let (table, strings) = symbol_tables(sections, number);
+    let names = up_to_last_nul(strings);
+    read_symbols(alloc, table, names, count)
+}
+
 /// Tests that no section holds relocations without addends.
 #[tactic(auto, unfolding(crate::specs::Symbols::rel_test))]
 fn check_rel(sections: &SectionTable) -> Result<(), ObjectFault>
@@ -43,49 +65,6 @@ fn symbol_table(sections: &SectionTable) -> Option<u32>
         }
     }
     None
-}
-
-/// Returns whether the section `index` is a string table.
-#[tactic(auto, unfolding(crate::specs::Symbols::is_string_table))]
-fn is_string_table(sections: &SectionTable, index: u32) -> bool
-    ensures { result ≡ is_string_table sections.now.file index }
-{
-    index < sections.section_count() && sections.section(index).kind == SHT_STRTAB
-}
-
-/// Returns whether the section `index` has entries of 24 bytes, each of them whole.
-#[tactic(auto, unfolding(crate::specs::Symbols::has_entries))]
-fn has_entries(sections: &SectionTable, index: u32) -> bool
-    requires { index < length sections.now.list }
-    ensures { result ≡ has_entries sections.now.file index }
-{
-    let entry = SYM_SIZE as u64;
-    sections.entry_size(index) == entry && sections.section(index).size % entry == 0
-}
-
-/// Returns whether the section `index` is valid if it is a table, by the number of the symbol
-/// table.
-#[tactic(auto, unfolding(crate::specs::Symbols::is_good_table, crate::specs::Symbols::is_symbol_table))]
-fn is_good_table(sections: &SectionTable, symbols: Option<u32>, index: u32) -> bool
-    requires index { index < length sections.now.list }
-    requires symbols { symbols ≡ symbol_table sections.now.file }
-    ensures { result ≡ is_good_table sections.now.file index }
-{
-    let section = sections.section(index);
-    match section.kind {
-        SHT_SYMTAB => {
-            symbols == Some(index)
-                && has_entries(sections, index)
-                && is_string_table(sections, section.link)
-        }
-        SHT_RELA => {
-            has_entries(sections, index)
-                && symbols == Some(section.link)
-                && 0 < section.info
-                && section.info < sections.section_count()
-        }
-        _ => true,
-    }
 }
 
 /// Tests that each table is valid, by the number of the symbol table.
@@ -122,24 +101,45 @@ fn symbol_tables<'a>(sections: &SectionTable<'a>, symbols: Option<u32>) -> (&'a 
     }
 }
 
-/// Reads the symbols of a file, after the tests of its tables.
-pub(crate) fn read_symbol_table<'a>(
-    alloc: Global,
-    sections: &SectionTable<'a>,
-) -> Result<List<SymbolRef<'a>>, ObjectFault>
-    requires { length sections.now.file ≤ file_limit }
-    ensures symbols { IfOk result (λ l. map owned_symbol l ≡ symbols_of sections.now.file) }
-    ensures read { IsRead sections.now.file sections.now.list }
-    ensures fit { OnOk result (TablesFit sections.now.file) }
-    ensures passed { OnOk result (first (symbol_tests sections.now.file) ≡ None) }
-    ensures fault { IfErr result
-        (λ e. (e ≡ ObjectFault.Memory) ⊎ (first (symbol_tests sections.now.file) ≡ Some e)) }
+/// Returns whether the section `index` is valid if it is a table, by the number of the symbol
+/// table.
+#[tactic(auto, unfolding(crate::specs::Symbols::is_good_table, crate::specs::Symbols::is_symbol_table))]
+fn is_good_table(sections: &SectionTable, symbols: Option<u32>, index: u32) -> bool
+    requires index { index < length sections.now.list }
+    requires symbols { symbols ≡ symbol_table sections.now.file }
+    ensures { result ≡ is_good_table sections.now.file index }
 {
-    let count = sections.section_count();
-    check_rel(sections)?;
-    let number = symbol_table(sections);
-    check_tables(sections, number)?;
-    let (table, strings) = symbol_tables(sections, number);
-    let names = up_to_last_nul(strings);
-    read_symbols(alloc, table, names, count)
+    let section = sections.section(index);
+    match section.kind {
+        SHT_SYMTAB => {
+            symbols == Some(index)
+                && has_entries(sections, index)
+                && is_string_table(sections, section.link)
+        }
+        SHT_RELA => {
+            has_entries(sections, index)
+                && symbols == Some(section.link)
+                && 0 < section.info
+                && section.info < sections.section_count()
+        }
+        _ => true,
+    }
+}
+
+/// Returns whether the section `index` has entries of 24 bytes, each of them whole.
+#[tactic(auto, unfolding(crate::specs::Symbols::has_entries))]
+fn has_entries(sections: &SectionTable, index: u32) -> bool
+    requires { index < length sections.now.list }
+    ensures { result ≡ has_entries sections.now.file index }
+{
+    let entry = SYM_SIZE as u64;
+    sections.entry_size(index) == entry && sections.section(index).size % entry == 0
+}
+
+/// Returns whether the section `index` is a string table.
+#[tactic(auto, unfolding(crate::specs::Symbols::is_string_table))]
+fn is_string_table(sections: &SectionTable, index: u32) -> bool
+    ensures { result ≡ is_string_table sections.now.file index }
+{
+    index < sections.section_count() && sections.section(index).kind == SHT_STRTAB
 }

@@ -27,33 +27,6 @@ pub(crate) struct SectionHeader {
     pub(crate) entry_size: u64,
 }
 
-/// Returns whether the file is of 64 bits, little-endian and of version 1.
-#[tactic(auto, unfolding(crate::specs::Shape::is_class))]
-fn has_class(bytes: &[u8]) -> bool
-    requires { 64 ≤ length bytes.now }
-    ensures { result ≡ is_class bytes.now }
-{
-    bytes[4] == ELFCLASS64
-        && bytes[5] == ELFDATA2LSB
-        && bytes[6] == EV_CURRENT
-        && le_u32_at(bytes, 20) == u32::from(EV_CURRENT)
-}
-
-/// Returns whether the numbers of the section header table are valid.
-#[tactic(auto, unfolding(crate::specs::Shape::is_table))]
-fn has_table(bytes: &[u8]) -> bool
-    requires { 64 ≤ length bytes.now }
-    ensures { result ≡ is_table bytes.now }
-{
-    let count = section_count(bytes);
-    let names = name_table(bytes);
-    le_u16_at(bytes, 58) == SHDR_SIZE as u16
-        && 0 < count
-        && count < SHN_LORESERVE
-        && 0 < names
-        && names < count
-}
-
 /// Returns the offset of the section header table.
 pub(crate) fn table_place(bytes: &[u8]) -> u64
     requires { 64 ≤ length bytes.now }
@@ -140,4 +113,31 @@ pub(crate) fn section_header(bytes: &[u8], index: u16) -> SectionHeader
         align: le_u64_at(bytes, at + 48),
         entry_size: le_u64_at(bytes, at + 56),
     }
+}
+
+/// Returns whether the file is of 64 bits, little-endian and of version 1.
+#[tactic(auto, unfolding(crate::specs::Shape::is_class))]
+fn has_class(bytes: &[u8]) -> bool
+    requires { 64 ≤ length bytes.now }
+    ensures { result ≡ is_class bytes.now }
+{
+    bytes[4] == ELFCLASS64
+        && bytes[5] == ELFDATA2LSB
+        && bytes[6] == EV_CURRENT
+        && le_u32_at(bytes, 20) == u32::from(EV_CURRENT)
+}
+
+/// Returns whether the numbers of the section header table are valid.
+#[tactic(auto, unfolding(crate::specs::Shape::is_table))]
+fn has_table(bytes: &[u8]) -> bool
+    requires { 64 ≤ length bytes.now }
+    ensures { result ≡ is_table bytes.now }
+{
+    let count = section_count(bytes);
+    let names = name_table(bytes);
+    le_u16_at(bytes, 58) == SHDR_SIZE as u16
+        && 0 < count
+        && count < SHN_LORESERVE
+        && 0 < names
+        && names < count
 }

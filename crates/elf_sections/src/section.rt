@@ -61,23 +61,23 @@ pub struct SectionRef<'a> {
     pub kept: bool,
 }
 
-/// Returns whether sections of this name are only read when the module is loaded.
-#[tactic(auto, unfolding(crate::specs::Shape::is_for_loading))]
-fn is_for_loading(name: &[u8]) -> bool
-    ensures { result ≡ is_for_loading name.now }
-{
-    name == b".modinfo".as_slice()
-        || name == b"__versions".as_slice()
-        || name == b"__version_ext_crcs".as_slice()
-        || name == b"__version_ext_names".as_slice()
-}
-
-/// Returns whether the section is in the memory of the running module.
-#[tactic(auto, unfolding(crate::specs::Shape::is_kept))]
-fn is_kept(kind: u32, flags: u64, name: &[u8]) -> bool
-    ensures { result ≡ is_kept kind flags name.now }
-{
-    kind != SHT_NULL && flags & SHF_ALLOC != 0 && !is_for_loading(name)
+impl<'a> SectionRef<'a> {
+    /// Returns the section with a name of its own.
+    pub fn to_owned(&self, alloc: Global) -> Result<Section, AllocError>
+        ensures { IfOk result (λ section. section ≡ owned_section self.now) }
+    {
+        Ok(Section {
+            name: Name::from_slice(alloc, self.name)?,
+            kind: self.kind,
+            flags: self.flags,
+            offset: self.offset,
+            size: self.size,
+            link: self.link,
+            info: self.info,
+            align: self.align,
+            kept: self.kept,
+        })
+    }
 }
 
 /// Tests the name of a section, and returns its length. Names may have `left` bytes more.
@@ -105,20 +105,6 @@ pub(crate) fn check_name(
     }
 }
 
-/// Returns the name of a section, by the table of names.
-#[tactic(auto, unfolding(crate::specs::Shape::name_in))]
-fn section_name(names: &[u8], kind: u32, at: u32) -> &[u8]
-    ensures { result.now ≡ name_in names.now kind at }
-{
-    if kind == SHT_NULL {
-        return &[];
-    }
-    match string_in(names, at as usize) {
-        Some(name) => name,
-        None => &[],
-    }
-}
-
 /// Returns the section `index`, by the table of names.
 #[tactic(auto, unfolding(crate::specs::Sections::section_of))]
 pub(crate) fn section_at<'a>(bytes: &[u8], names: &'a [u8], index: u16) -> SectionRef<'a>
@@ -142,21 +128,35 @@ pub(crate) fn section_at<'a>(bytes: &[u8], names: &'a [u8], index: u16) -> Secti
     }
 }
 
-impl<'a> SectionRef<'a> {
-    /// Returns the section with a name of its own.
-    pub fn to_owned(&self, alloc: Global) -> Result<Section, AllocError>
-        ensures { IfOk result (λ section. section ≡ owned_section self.now) }
-    {
-        Ok(Section {
-            name: Name::from_slice(alloc, self.name)?,
-            kind: self.kind,
-            flags: self.flags,
-            offset: self.offset,
-            size: self.size,
-            link: self.link,
-            info: self.info,
-            align: self.align,
-            kept: self.kept,
-        })
+/// Returns the name of a section, by the table of names.
+#[tactic(auto, unfolding(crate::specs::Shape::name_in))]
+fn section_name(names: &[u8], kind: u32, at: u32) -> &[u8]
+    ensures { result.now ≡ name_in names.now kind at }
+{
+    if kind == SHT_NULL {
+        return &[];
     }
+    match string_in(names, at as usize) {
+        Some(name) => name,
+        None => &[],
+    }
+}
+
+/// Returns whether the section is in the memory of the running module.
+#[tactic(auto, unfolding(crate::specs::Shape::is_kept))]
+fn is_kept(kind: u32, flags: u64, name: &[u8]) -> bool
+    ensures { result ≡ is_kept kind flags name.now }
+{
+    kind != SHT_NULL && flags & SHF_ALLOC != 0 && !is_for_loading(name)
+}
+
+/// Returns whether sections of this name are only read when the module is loaded.
+#[tactic(auto, unfolding(crate::specs::Shape::is_for_loading))]
+fn is_for_loading(name: &[u8]) -> bool
+    ensures { result ≡ is_for_loading name.now }
+{
+    name == b".modinfo".as_slice()
+        || name == b"__versions".as_slice()
+        || name == b"__version_ext_crcs".as_slice()
+        || name == b"__version_ext_names".as_slice()
 }

@@ -22,74 +22,6 @@ use elf_format::{SHT_NOBITS, SHT_NULL, SHT_STRTAB};
 use km_names::List;
 use std::alloc::{AllocError, Global};
 
-/// Returns whether sections of this type have bytes in the file.
-fn has_content(kind: u32) -> bool
-    ensures { result ≡ has_content kind }
-{
-    kind != SHT_NULL && kind != SHT_NOBITS
-}
-
-/// Returns the bytes of a section in the file.
-#[tactic(auto, unfolding(crate::specs::Shape::content))]
-fn content(bytes: &[u8], kind: u32, offset: u64, size: u64) -> &[u8]
-    requires { IsTrue (has_content kind) → offset + size ≤ length bytes.now }
-    ensures { result.now ≡ content bytes.now kind offset size }
-{
-    if has_content(kind) {
-        let start = offset as usize;
-        &bytes[start..start + size as usize]
-    } else {
-        &[]
-    }
-}
-
-/// Tests that the section `index` lies in the file, and that the first one is of type NULL.
-#[tactic(auto, unfolding(crate::specs::Shape::content_test))]
-fn check_content(bytes: &[u8], index: u16, header: &SectionHeader) -> Result<(), SectionFault>
-    requires { header.now ≡ section_header bytes.now index }
-    ensures fault { result_err result ≡ content_test bytes.now index }
-    ensures within { OnOk result (IsInFile bytes.now header.now) }
-{
-    if index == 0 && header.kind != SHT_NULL {
-        return Err(SectionFault::BadSection { index: 0 });
-    }
-    if has_content(header.kind) && !is_within(bytes, header.offset, header.size) {
-        return Err(SectionFault::Truncated {
-            offset: header.offset,
-            need: header.size,
-        });
-    }
-    Ok(())
-}
-
-/// Tests that each section lies in the file.
-fn check_contents(bytes: &[u8]) -> Result<(), SectionFault>
-    requires { HasTable bytes.now }
-    ensures fault { result_err result
-        ≡ first (each (section_count bytes.now) (content_test bytes.now)) }
-    ensures within { OnOk result (AllInFile bytes.now) }
-{
-    for index in 0..section_count(bytes) {
-        check_content(bytes, index, &section_header(bytes, index))?;
-    }
-    Ok(())
-}
-
-/// Tests that the section with the names is a string table.
-#[tactic(auto, unfolding(crate::specs::Shape::name_table_test))]
-fn check_name_table(bytes: &[u8]) -> Result<(), SectionFault>
-    requires { HasTable bytes.now }
-    ensures { result_err result ≡ name_table_test bytes.now }
-{
-    let index = name_table(bytes);
-    if section_header(bytes, index).kind != SHT_STRTAB {
-        return Err(SectionFault::BadSection {
-            index: u32::from(index),
-        });
-    }
-    Ok(())
-}
-
 /// Returns the bytes of the section `index`.
 pub(crate) fn contents(bytes: &[u8], index: u16) -> &[u8]
     requires table { HasTable bytes.now }
@@ -99,34 +31,6 @@ pub(crate) fn contents(bytes: &[u8], index: u16) -> &[u8]
 {
     let header = section_header(bytes, index);
     content(bytes, header.kind, header.offset, header.size)
-}
-
-/// Tests the names of the sections, by the table of names. Together they have at most `NAME_LIMIT`
-/// bytes.
-fn check_names(bytes: &[u8], names: &[u8]) -> Result<(), SectionFault>
-    requires table { HasTable bytes.now }
-    requires names { HasStrings (contents bytes.now (name_table bytes.now)) names.now }
-    ensures passed { OnOk result
-        (first (each (section_count bytes.now) (name_test bytes.now)) ≡ None) }
-    ensures fault { IfErr result
-        (λ e. (e ≡ SectionFault.Memory)
-        ⊎ (first (each (section_count bytes.now) (name_test bytes.now)) ≡ Some e)) }
-{
-    let mut left = NAME_LIMIT;
-    for index in 0..section_count(bytes) {
-        let header = section_header(bytes, index);
-        left -= check_name(names, header.kind, header.name, left)?;
-    }
-    Ok(())
-}
-
-/// Returns the table of names up to its last NUL.
-fn section_names(bytes: &[u8]) -> &[u8]
-    requires table { HasTable bytes.now }
-    requires within { AllInFile bytes.now }
-    ensures { HasStrings (contents bytes.now (name_table bytes.now)) result.now }
-{
-    up_to_last_nul(contents(bytes, name_table(bytes)))
 }
 
 /// Tests a file with sections.
@@ -173,4 +77,100 @@ pub(crate) fn owned_sections(alloc: Global, bytes: &[u8]) -> Result<List<Section
         sections.push(section_at(bytes, names, index).to_owned(alloc)?)?;
     }
     Ok(List::from_vec(sections))
+}
+
+/// Returns the bytes of a section in the file.
+#[tactic(auto, unfolding(crate::specs::Shape::content))]
+fn content(bytes: &[u8], kind: u32, offset: u64, size: u64) -> &[u8]
+    requires { IsTrue (has_content kind) → offset + size ≤ length bytes.now }
+    ensures { result.now ≡ content bytes.now kind offset size }
+{
+    if has_content(kind) {
+        let start = offset as usize;
+        &bytes[start..start + size as usize]
+    } else {
+        &[]
+    }
+}
+
+/// Tests that each section lies in the file.
+fn check_contents(bytes: &[u8]) -> Result<(), SectionFault>
+    requires { HasTable bytes.now }
+    ensures fault { result_err result
+        ≡ first (each (section_count bytes.now) (content_test bytes.now)) }
+    ensures within { OnOk result (AllInFile bytes.now) }
+{
+    for index in 0..section_count(bytes) {
+        check_content(bytes, index, &section_header(bytes, index))?;
+    }
+    Ok(())
+}
+
+/// Tests that the section with the names is a string table.
+#[tactic(auto, unfolding(crate::specs::Shape::name_table_test))]
+fn check_name_table(bytes: &[u8]) -> Result<(), SectionFault>
+    requires { HasTable bytes.now }
+    ensures { result_err result ≡ name_table_test bytes.now }
+{
+    let index = name_table(bytes);
+    if section_header(bytes, index).kind != SHT_STRTAB {
+        return Err(SectionFault::BadSection {
+            index: u32::from(index),
+        });
+    }
+    Ok(())
+}
+
+/// Tests the names of the sections, by the table of names. Together they have at most `NAME_LIMIT`
+/// bytes.
+fn check_names(bytes: &[u8], names: &[u8]) -> Result<(), SectionFault>
+    requires table { HasTable bytes.now }
+    requires names { HasStrings (contents bytes.now (name_table bytes.now)) names.now }
+    ensures passed { OnOk result
+        (first (each (section_count bytes.now) (name_test bytes.now)) ≡ None) }
+    ensures fault { IfErr result
+        (λ e. (e ≡ SectionFault.Memory)
+        ⊎ (first (each (section_count bytes.now) (name_test bytes.now)) ≡ Some e)) }
+{
+    let mut left = NAME_LIMIT;
+    for index in 0..section_count(bytes) {
+        let header = section_header(bytes, index);
+        left -= check_name(names, header.kind, header.name, left)?;
+    }
+    Ok(())
+}
+
+/// Returns the table of names up to its last NUL.
+fn section_names(bytes: &[u8]) -> &[u8]
+    requires table { HasTable bytes.now }
+    requires within { AllInFile bytes.now }
+    ensures { HasStrings (contents bytes.now (name_table bytes.now)) result.now }
+{
+    up_to_last_nul(contents(bytes, name_table(bytes)))
+}
+
+/// Returns whether sections of this type have bytes in the file.
+fn has_content(kind: u32) -> bool
+    ensures { result ≡ has_content kind }
+{
+    kind != SHT_NULL && kind != SHT_NOBITS
+}
+
+/// Tests that the section `index` lies in the file, and that the first one is of type NULL.
+#[tactic(auto, unfolding(crate::specs::Shape::content_test))]
+fn check_content(bytes: &[u8], index: u16, header: &SectionHeader) -> Result<(), SectionFault>
+    requires { header.now ≡ section_header bytes.now index }
+    ensures fault { result_err result ≡ content_test bytes.now index }
+    ensures within { OnOk result (IsInFile bytes.now header.now) }
+{
+    if index == 0 && header.kind != SHT_NULL {
+        return Err(SectionFault::BadSection { index: 0 });
+    }
+    if has_content(header.kind) && !is_within(bytes, header.offset, header.size) {
+        return Err(SectionFault::Truncated {
+            offset: header.offset,
+            need: header.size,
+        });
+    }
+    Ok(())
 }

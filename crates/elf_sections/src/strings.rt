@@ -20,51 +20,6 @@ const NEAR: usize = 32;
 /// have less than a tenth of this.
 pub const NAME_LIMIT: usize = 4 * FILE_LIMIT;
 
-/// Returns which of the bytes are NUL, with a bit for each.
-#[inline(always)]
-fn nuls(bytes: u8x32) -> u64
-    ensures { result ≡ mask_l (map (λ b. b == 0) bytes) }
-{
-    bytes.simd_eq(u8x32::splat(0)).to_bitmask()
-}
-
-/// Returns the place of the first NUL if it is near. Returns `None` also if there are few bytes.
-#[inline(always)]
-fn near_nul(bytes: &[u8]) -> Option<usize>
-    ensures { IfSome result (λ place. IsFirstByte (is_byte 0) bytes.now (Some place)) }
-{
-    if bytes.len() < NEAR {
-        return None;
-    }
-    let found = nuls(u8x32::from_slice(bytes));
-    if found == 0 {
-        return None;
-    }
-    Some(found.trailing_zeros() as usize)
-}
-
-/// Returns the string that the bytes begin with if its end is near.
-#[inline(always)]
-fn near_string(bytes: &[u8]) -> Option<&[u8]>
-    ensures { IfSome result (λ string. first_string bytes.now ≡ Some string.now) }
-{
-    match near_nul(bytes) {
-        Some(end) => Some(&bytes[..end]),
-        None => None,
-    }
-}
-
-/// Returns the string at the place `at` of a table if its end is near.
-#[inline(always)]
-fn near_string_at(table: &[u8], at: usize) -> Option<&[u8]>
-    ensures { IfSome result (λ string. string_at table.now at ≡ Some string.now) }
-{
-    if table.len() <= at {
-        return None;
-    }
-    near_string(&table[at..])
-}
-
 /// Returns the string at the place `at` of a table, if one is there.
 pub(crate) fn string_in(table: &[u8], at: usize) -> Option<&[u8]>
     ensures { option_copied result ≡ string_at table.now at }
@@ -109,4 +64,49 @@ pub fn up_to_last_nul(table: &[u8]) -> &[u8]
         Some(last) => &table[..last + 1],
         None => &[],
     }
+}
+
+/// Returns the string at the place `at` of a table if its end is near.
+#[inline(always)]
+fn near_string_at(table: &[u8], at: usize) -> Option<&[u8]>
+    ensures { IfSome result (λ string. string_at table.now at ≡ Some string.now) }
+{
+    if table.len() <= at {
+        return None;
+    }
+    near_string(&table[at..])
+}
+
+/// Returns the string that the bytes begin with if its end is near.
+#[inline(always)]
+fn near_string(bytes: &[u8]) -> Option<&[u8]>
+    ensures { IfSome result (λ string. first_string bytes.now ≡ Some string.now) }
+{
+    match near_nul(bytes) {
+        Some(end) => Some(&bytes[..end]),
+        None => None,
+    }
+}
+
+/// Returns the place of the first NUL if it is near. Returns `None` also if there are few bytes.
+#[inline(always)]
+fn near_nul(bytes: &[u8]) -> Option<usize>
+    ensures { IfSome result (λ place. IsFirstByte (is_byte 0) bytes.now (Some place)) }
+{
+    if bytes.len() < NEAR {
+        return None;
+    }
+    let found = nuls(u8x32::from_slice(bytes));
+    if found == 0 {
+        return None;
+    }
+    Some(found.trailing_zeros() as usize)
+}
+
+/// Returns which of the bytes are NUL, with a bit for each.
+#[inline(always)]
+fn nuls(bytes: u8x32) -> u64
+    ensures { result ≡ mask_l (map (λ b. b == 0) bytes) }
+{
+    bytes.simd_eq(u8x32::splat(0)).to_bitmask()
 }

@@ -26,69 +26,6 @@ pub(crate) struct ObjectFile {
     names: u32,
 }
 
-/// Puts the file header of this many sections at the end, with the number of the section of names,
-/// and with 0 for the place of the section header table.
-#[tactic(auto, unfolding(crate::specs::File::header))]
-fn push_header(out: &mut Vec<u8>, count: u16, named: u16) -> Result<(), AllocError>
-    ensures { OnOk result (out.new.items ≡ out.old.items ++ header 0 count named) }
-{
-    out.extend_from_slice(&ELFMAG)?;
-    out.extend_from_slice(&[ELFCLASS64, ELFDATA2LSB, EV_CURRENT])?;
-    push_zeros(out, 9)?;
-    push_half(out, ET_REL)?;
-    push_half(out, EM_X86_64)?;
-    push_word(out, u32::from(EV_CURRENT))?;
-    push_zeros(out, 16)?;
-    push_xword(out, 0)?;
-    push_zeros(out, 4)?;
-    push_half(out, EHDR_SIZE as u16)?;
-    push_zeros(out, 4)?;
-    push_half(out, SHDR_SIZE as u16)?;
-    push_half(out, count)?;
-    push_half(out, named)
-}
-
-/// Puts a section header at the end.
-#[tactic(auto, unfolding(crate::specs::File::section_header))]
-fn push_section_header(
-    out: &mut Vec<u8>,
-    name: u32,
-    attributes: &Attributes,
-    place: u64,
-    size: u64,
-) -> Result<(), AllocError>
-    ensures { OnOk result
-        (out.new.items ≡ out.old.items ++ section_header name attributes.now place size) }
-{
-    push_word(out, name)?;
-    push_word(out, attributes.kind)?;
-    push_xword(out, attributes.flags)?;
-    push_zeros(out, 8)?;
-    push_xword(out, place)?;
-    push_xword(out, size)?;
-    push_word(out, attributes.link)?;
-    push_word(out, attributes.info)?;
-    push_xword(out, attributes.align)?;
-    push_xword(out, attributes.entry_size)
-}
-
-/// Fills a file up to a multiple of 8.
-fn fill_up(file: &mut Vec<u8>) -> Result<(), AllocError>
-    ensures { OnOk result (file.new.items ≡ file.old.items ++ zeros (gap (length file.old.items))) }
-{
-    let gap = (8 - file.len() % 8) % 8;
-    push_zeros(file, gap)
-}
-
-/// Writes the place of the section header table into a file.
-#[tactic(auto, unfolding(crate::specs::Number::xword))]
-fn put_table_place(file: &mut [u8], place: u64)
-    requires { 48 ≤ length file.old }
-    ensures { file.new ≡ take 40 file.old ++ xword place ++ drop 48 file.old }
-{
-    LittleEndian::write_u64(&mut file[TABLE_FIELD..], place);
-}
-
 impl ObjectFile {
     /// Returns the file of this many sections before any is added. The section of the number
     /// `named` has their names.
@@ -173,4 +110,67 @@ pub fn file_of(alloc: Global, named: u16, parts: &[Part]) -> Result<Vec<u8>, All
     file.push_all(parts)?;
     let bytes = file.finish()?;
     Ok(bytes)
+}
+
+/// Puts the file header of this many sections at the end, with the number of the section of names,
+/// and with 0 for the place of the section header table.
+#[tactic(auto, unfolding(crate::specs::File::header))]
+fn push_header(out: &mut Vec<u8>, count: u16, named: u16) -> Result<(), AllocError>
+    ensures { OnOk result (out.new.items ≡ out.old.items ++ header 0 count named) }
+{
+    out.extend_from_slice(&ELFMAG)?;
+    out.extend_from_slice(&[ELFCLASS64, ELFDATA2LSB, EV_CURRENT])?;
+    push_zeros(out, 9)?;
+    push_half(out, ET_REL)?;
+    push_half(out, EM_X86_64)?;
+    push_word(out, u32::from(EV_CURRENT))?;
+    push_zeros(out, 16)?;
+    push_xword(out, 0)?;
+    push_zeros(out, 4)?;
+    push_half(out, EHDR_SIZE as u16)?;
+    push_zeros(out, 4)?;
+    push_half(out, SHDR_SIZE as u16)?;
+    push_half(out, count)?;
+    push_half(out, named)
+}
+
+/// Fills a file up to a multiple of 8.
+fn fill_up(file: &mut Vec<u8>) -> Result<(), AllocError>
+    ensures { OnOk result (file.new.items ≡ file.old.items ++ zeros (gap (length file.old.items))) }
+{
+    let gap = (8 - file.len() % 8) % 8;
+    push_zeros(file, gap)
+}
+
+/// Puts a section header at the end.
+#[tactic(auto, unfolding(crate::specs::File::section_header))]
+fn push_section_header(
+    out: &mut Vec<u8>,
+    name: u32,
+    attributes: &Attributes,
+    place: u64,
+    size: u64,
+) -> Result<(), AllocError>
+    ensures { OnOk result
+        (out.new.items ≡ out.old.items ++ section_header name attributes.now place size) }
+{
+    push_word(out, name)?;
+    push_word(out, attributes.kind)?;
+    push_xword(out, attributes.flags)?;
+    push_zeros(out, 8)?;
+    push_xword(out, place)?;
+    push_xword(out, size)?;
+    push_word(out, attributes.link)?;
+    push_word(out, attributes.info)?;
+    push_xword(out, attributes.align)?;
+    push_xword(out, attributes.entry_size)
+}
+
+/// Writes the place of the section header table into a file.
+#[tactic(auto, unfolding(crate::specs::Number::xword))]
+fn put_table_place(file: &mut [u8], place: u64)
+    requires { 48 ≤ length file.old }
+    ensures { file.new ≡ take 40 file.old ++ xword place ++ drop 48 file.old }
+{
+    LittleEndian::write_u64(&mut file[TABLE_FIELD..], place);
 }

@@ -49,18 +49,6 @@ pub struct SheetParam {
 /// A list of parameters.
 pub type SheetParams = List<SheetParam>;
 
-/// Puts the relocation of a word of `__param` at the end. The word is the address of a place in
-/// `.data`.
-#[tactic(auto, unfolding(crate::specs::Params::data_address))]
-fn push_address(out: &mut Vec<u8>, offset: u64, place: u64) -> Result<(), AllocError>
-    ensures { OnOk result (out.new.items ≡ out.old.items ++ data_address offset place) }
-{
-    push_xword(out, offset)?;
-    push_word(out, R_X86_64_64)?;
-    push_word(out, 1)?;
-    push_xword(out, place)
-}
-
 /// The names of parameters, and the relocations of their entries.
 #[derive(Drop)]
 pub(crate) struct Linked {
@@ -68,17 +56,27 @@ pub(crate) struct Linked {
     pub(crate) addresses: Vec<u8>,
 }
 
-/// Puts the relocations of the entry `k` at the end. The name of the entry is at this place of
-/// `.data`.
-fn push_entry(out: &mut Vec<u8>, k: u64, name: u64) -> Result<(), AllocError>
-    requires { 40 * k + 40 < 2 ^ 64 }
-    ensures { OnOk result
-        (out.new.items
-        ≡ out.old.items ++ data_address (40 * k) name ++ data_address (40 * k + 32) (8 * k)) }
+/// Writes the relocatable object of a module that has these parameters and nothing else. Its
+/// `__param` is a table of entries, whose words are relocated to the names and the values in
+/// `.data`. Its `.modinfo` has a text for the type of each parameter. The kernel's
+/// include/linux/moduleparam.h. The only error is out of memory.
+#[tactic(auto, unfolding(crate::specs::Params::param_object_of))]
+pub fn param_object(alloc: Global, params: &SheetParams) -> Result<Blob, AllocError>
+    ensures { IfOk result (λ bytes. bytes ≡ param_object_of params.now) }
 {
-    let offset = ENTRY_SIZE * k;
-    push_address(out, offset, name)?;
-    push_address(out, offset + VALUE_FIELD, WORD_SIZE as u64 * k)
+    let params = params.as_slice();
+    // No memory has so many parameters.
+    if u32::MAX as usize <= params.len() {
+        return Err(AllocError);
+    }
+    let linked = linked_params(alloc, params)?;
+    let Linked { names, addresses } = linked;
+    let mut parts = Vec::new(alloc);
+    push_loaded(alloc, &mut parts, params, &names)?;
+    push_linked(alloc, &mut parts, addresses)?;
+    push_further(alloc, &mut parts, Vec::new(alloc))?;
+    let bytes = file_of(alloc, PARAM_NAMES, &parts)?;
+    Ok(Blob::from_vec(bytes))
 }
 
 /// Returns the names of parameters, each with its NUL, and the relocations of their entries.
@@ -100,35 +98,6 @@ fn linked_params(alloc: Global, params: &[SheetParam]) -> Result<Linked, AllocEr
         names.push(0)?;
     }
     Ok(Linked { names, addresses })
-}
-
-/// Returns the texts that state the type of each parameter.
-fn type_texts(alloc: Global, params: &[SheetParam]) -> Result<Vec<u8>, AllocError>
-    ensures { IfOk result (λ v. v.items ≡ flat_map type_text params.now) }
-{
-    let mut texts = Vec::new(alloc);
-    for param in params {
-        texts.extend_from_slice(b"parmtype=")?;
-        texts.extend_from_slice(param.name.as_bytes())?;
-        texts.extend_from_slice(b":")?;
-        texts.extend_from_slice(param.kind.as_bytes())?;
-        texts.push(0)?;
-    }
-    Ok(texts)
-}
-
-/// Returns the symbols: one of zeros, and the symbol of the section `.data`.
-#[tactic(auto, unfolding(crate::specs::Params::section_symbol))]
-fn section_symbol(alloc: Global) -> Result<Vec<u8>, AllocError>
-    ensures { IfOk result (λ v. v.items ≡ section_symbol) }
-{
-    let mut symbols = Vec::new(alloc);
-    push_zeros(&mut symbols, 24)?;
-    push_word(&mut symbols, 0)?;
-    symbols.extend_from_slice(&[3, 0])?;
-    push_half(&mut symbols, 1)?;
-    push_zeros(&mut symbols, 16)?;
-    Ok(symbols)
 }
 
 /// Puts the loaded sections and the texts at the end.
@@ -171,25 +140,56 @@ fn push_linked(alloc: Global, parts: &mut Vec<Part>, addresses: Vec<u8>) -> Resu
     Ok(())
 }
 
-/// Writes the relocatable object of a module that has these parameters and nothing else. Its
-/// `__param` is a table of entries, whose words are relocated to the names and the values in
-/// `.data`. Its `.modinfo` has a text for the type of each parameter. The kernel's
-/// include/linux/moduleparam.h. The only error is out of memory.
-#[tactic(auto, unfolding(crate::specs::Params::param_object_of))]
-pub fn param_object(alloc: Global, params: &SheetParams) -> Result<Blob, AllocError>
-    ensures { IfOk result (λ bytes. bytes ≡ param_object_of params.now) }
+/// Puts the relocations of the entry `k` at the end. The name of the entry is at this place of
+/// `.data`.
+fn push_entry(out: &mut Vec<u8>, k: u64, name: u64) -> Result<(), AllocError>
+    requires { 40 * k + 40 < 2 ^ 64 }
+    ensures { OnOk result
+        (out.new.items
+        ≡ out.old.items ++ data_address (40 * k) name ++ data_address (40 * k + 32) (8 * k)) }
 {
-    let params = params.as_slice();
-    // No memory has so many parameters.
-    if u32::MAX as usize <= params.len() {
-        return Err(AllocError);
+    let offset = ENTRY_SIZE * k;
+    push_address(out, offset, name)?;
+    push_address(out, offset + VALUE_FIELD, WORD_SIZE as u64 * k)
+}
+
+/// Returns the texts that state the type of each parameter.
+fn type_texts(alloc: Global, params: &[SheetParam]) -> Result<Vec<u8>, AllocError>
+    ensures { IfOk result (λ v. v.items ≡ flat_map type_text params.now) }
+{
+    let mut texts = Vec::new(alloc);
+    for param in params {
+        texts.extend_from_slice(b"parmtype=")?;
+        texts.extend_from_slice(param.name.as_bytes())?;
+        texts.extend_from_slice(b":")?;
+        texts.extend_from_slice(param.kind.as_bytes())?;
+        texts.push(0)?;
     }
-    let linked = linked_params(alloc, params)?;
-    let Linked { names, addresses } = linked;
-    let mut parts = Vec::new(alloc);
-    push_loaded(alloc, &mut parts, params, &names)?;
-    push_linked(alloc, &mut parts, addresses)?;
-    push_further(alloc, &mut parts, Vec::new(alloc))?;
-    let bytes = file_of(alloc, PARAM_NAMES, &parts)?;
-    Ok(Blob::from_vec(bytes))
+    Ok(texts)
+}
+
+/// Returns the symbols: one of zeros, and the symbol of the section `.data`.
+#[tactic(auto, unfolding(crate::specs::Params::section_symbol))]
+fn section_symbol(alloc: Global) -> Result<Vec<u8>, AllocError>
+    ensures { IfOk result (λ v. v.items ≡ section_symbol) }
+{
+    let mut symbols = Vec::new(alloc);
+    push_zeros(&mut symbols, 24)?;
+    push_word(&mut symbols, 0)?;
+    symbols.extend_from_slice(&[3, 0])?;
+    push_half(&mut symbols, 1)?;
+    push_zeros(&mut symbols, 16)?;
+    Ok(symbols)
+}
+
+/// Puts the relocation of a word of `__param` at the end. The word is the address of a place in
+/// `.data`.
+#[tactic(auto, unfolding(crate::specs::Params::data_address))]
+fn push_address(out: &mut Vec<u8>, offset: u64, place: u64) -> Result<(), AllocError>
+    ensures { OnOk result (out.new.items ≡ out.old.items ++ data_address offset place) }
+{
+    push_xword(out, offset)?;
+    push_word(out, R_X86_64_64)?;
+    push_word(out, 1)?;
+    push_xword(out, place)
 }

@@ -30,18 +30,6 @@ pub fn push_part(
     Ok(())
 }
 
-/// Puts the names of sections at the end, each with its NUL.
-fn push_names(out: &mut Vec<u8>, parts: &[Part]) -> Result<(), AllocError>
-    ensures { OnOk result
-        (out.new.items ≡ out.old.items ++ flat_map (λ p. with_nul p.name) parts.now) }
-{
-    for part in parts {
-        out.extend_from_slice(part.name.as_bytes())?;
-        out.push(0)?;
-    }
-    Ok(())
-}
-
 /// Puts the section `.shstrtab` at the end of a list of sections, and then the further sections. It
 /// has the names of all of them, each with its NUL, after an empty one. gABI 4, "Special Sections".
 /// The only error is out of memory.
@@ -61,5 +49,17 @@ pub fn push_further(
     let attributes = Attributes::plain(SHT_STRTAB, 0, 1);
     push_part(alloc, parts, SECTION_NAMES_NAME, attributes, names)?;
     parts.append(&mut further)?;
+    Ok(())
+}
+
+/// Puts the names of sections at the end, each with its NUL.
+fn push_names(out: &mut Vec<u8>, parts: &[Part]) -> Result<(), AllocError>
+    ensures { OnOk result
+        (out.new.items ≡ out.old.items ++ flat_map (λ p. with_nul p.name) parts.now) }
+{
+    for part in parts {
+        out.extend_from_slice(part.name.as_bytes())?;
+        out.push(0)?;
+    }
     Ok(())
 }

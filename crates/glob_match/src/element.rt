@@ -17,14 +17,19 @@ pub(crate) enum Element<'p> {
     Byte(u8),
 }
 
-/// Returns the inside of a set and what follows its closing bracket. `bytes` begins after the
-/// opening one. The result is `None` if no bracket closes the set.
-fn split_set(bytes: &[u8]) -> Option<(&[u8], &[u8])>
-    ensures { MatchOption result (Contains bytes.now closing → ⊥)
-        (λ r. Closes bytes.now r.0.now r.1.now) }
-{
-    let end = bytes.iter().position(|byte| *byte == b']')?;
-    Some((&bytes[..end], &bytes[end + 1..]))
+impl Element<'_> {
+    /// Returns whether the element matches exactly this one byte, whatever follows. A run matches
+    /// no single byte.
+    pub(crate) fn is_met(&self, byte: u8) -> bool
+        ensures { IsTrue result ↔ IsMet self.now byte }
+    {
+        match self {
+            Element::Run => false,
+            Element::Any => true,
+            Element::Set(inside) => has(inside, byte),
+            Element::Byte(own) => byte == *own,
+        }
+    }
 }
 
 /// Returns the element that a pattern begins with, and the pattern after that element. The pattern
@@ -46,17 +51,12 @@ pub(crate) fn first_element(first: u8, after: &[u8]) -> Option<(Element<'_>, &[u
     }
 }
 
-impl Element<'_> {
-    /// Returns whether the element matches exactly this one byte, whatever follows. A run matches
-    /// no single byte.
-    pub(crate) fn is_met(&self, byte: u8) -> bool
-        ensures { IsTrue result ↔ IsMet self.now byte }
-    {
-        match self {
-            Element::Run => false,
-            Element::Any => true,
-            Element::Set(inside) => has(inside, byte),
-            Element::Byte(own) => byte == *own,
-        }
-    }
+/// Returns the inside of a set and what follows its closing bracket. `bytes` begins after the
+/// opening one. The result is `None` if no bracket closes the set.
+fn split_set(bytes: &[u8]) -> Option<(&[u8], &[u8])>
+    ensures { MatchOption result (Contains bytes.now closing → ⊥)
+        (λ r. Closes bytes.now r.0.now r.1.now) }
+{
+    let end = bytes.iter().position(|byte| *byte == b']')?;
+    Some((&bytes[..end], &bytes[end + 1..]))
 }

@@ -2,18 +2,14 @@ ghost use Rattle.std.specs.Prelude.{◌≡◌, ◌↔◌, ◌<◌, [], IsTrue, M
 ghost use Rattle.glob_match.specs.Front.{BeginsWith};
 ghost use Rattle.glob_pattern.specs.Pattern.{Has, Lists};
 
-/// Returns the first range of a set's items, from its lowest to its highest byte, and the items
-/// after it. A single byte is the range from itself to itself. The result is `None` if there is no
-/// item.
-fn first_range(items: &[u8]) -> Option<(u8, u8, &[u8])>
-    ensures { MatchOption result (items.now ≡ []) (λ r. BeginsWith items.now r.0 r.1 r.2.now) }
+/// Returns whether a set has the byte, by the bytes between its brackets.
+pub(crate) fn has(inside: &[u8], byte: u8) -> bool
+    ensures { IsTrue result ↔ Has inside.now byte }
 {
-    if items.len() >= 3 && items[1] == b'-' {
-        Some((items[0], items[2], &items[3..]))
-    } else if items.is_empty() {
-        None
+    if !inside.is_empty() && inside[0] == b'!' {
+        !lists(&inside[1..], byte)
     } else {
-        Some((items[0], items[0], &items[1..]))
+        lists(inside, byte)
     }
 }
 
@@ -31,13 +27,17 @@ fn lists(items: &[u8], byte: u8) -> bool
     false
 }
 
-/// Returns whether a set has the byte, by the bytes between its brackets.
-pub(crate) fn has(inside: &[u8], byte: u8) -> bool
-    ensures { IsTrue result ↔ Has inside.now byte }
+/// Returns the first range of a set's items, from its lowest to its highest byte, and the items
+/// after it. A single byte is the range from itself to itself. The result is `None` if there is no
+/// item.
+fn first_range(items: &[u8]) -> Option<(u8, u8, &[u8])>
+    ensures { MatchOption result (items.now ≡ []) (λ r. BeginsWith items.now r.0 r.1 r.2.now) }
 {
-    if !inside.is_empty() && inside[0] == b'!' {
-        !lists(&inside[1..], byte)
+    if items.len() >= 3 && items[1] == b'-' {
+        Some((items[0], items[2], &items[3..]))
+    } else if items.is_empty() {
+        None
     } else {
-        lists(inside, byte)
+        Some((items[0], items[0], &items[1..]))
     }
 }

@@ -18,50 +18,6 @@ pub(crate) struct Items {
     pub(crate) listed: [u64; 4],
 }
 
-/// Returns all bytes, each at its own place.
-pub(crate) fn all_bytes() -> [u8; 256]
-    ensures size { length result ≡ 256 }
-    ensures own { (byte : ℕ) → byte < 256 → slice_index result byte ≡ byte }
-{
-    let mut bytes = [0; 256];
-    for byte in 0..256 {
-        bytes[byte] = byte as u8;
-    }
-    bytes
-}
-
-/// Returns whether a byte is an item of a set, and not the end of the set or of the prefix.
-fn is_item(byte: u8) -> bool
-    ensures { IsTrue result → byte ≢ closing }
-{
-    byte != b']' && byte != 0
-}
-
-/// Returns the items from a place on, by those from the next place on and from the third after it
-/// on.
-pub(crate) fn items_at(bytes: &[u8], at: usize, next: &Items, third: &Items, all: &[u8]) -> Items
-    requires within { at + 3 < length bytes.now }
-    requires next { AreItems bytes.now next.now }
-    requires next_start { next.now.start ≡ at + 1 }
-    requires third { AreItems bytes.now third.now }
-    requires third_start { third.now.start ≡ at + 3 }
-    requires size { length all.now ≡ 256 }
-    requires own { (byte : ℕ) → byte < 256 → slice_index all.now byte ≡ byte }
-    ensures items { AreItems bytes.now result }
-    ensures start { result.start ≡ at }
-{
-    let low = bytes[at];
-    let middle = bytes[at + 1];
-    if middle == b'-' {
-        if is_item(bytes[at + 2]) && is_item(bytes[at + 3]) {
-            return third.after(at, low, bytes[at + 2], all);
-        }
-    } else if is_item(middle) {
-        return next.after(at, low, low, all);
-    }
-    Items::none(at)
-}
-
 impl Items {
     /// Returns no items, before the one at a place.
     pub(crate) fn none(at: usize) -> Items
@@ -94,4 +50,48 @@ impl Items {
             listed,
         }
     }
+}
+
+/// Returns all bytes, each at its own place.
+pub(crate) fn all_bytes() -> [u8; 256]
+    ensures size { length result ≡ 256 }
+    ensures own { (byte : ℕ) → byte < 256 → slice_index result byte ≡ byte }
+{
+    let mut bytes = [0; 256];
+    for byte in 0..256 {
+        bytes[byte] = byte as u8;
+    }
+    bytes
+}
+
+/// Returns the items from a place on, by those from the next place on and from the third after it
+/// on.
+pub(crate) fn items_at(bytes: &[u8], at: usize, next: &Items, third: &Items, all: &[u8]) -> Items
+    requires within { at + 3 < length bytes.now }
+    requires next { AreItems bytes.now next.now }
+    requires next_start { next.now.start ≡ at + 1 }
+    requires third { AreItems bytes.now third.now }
+    requires third_start { third.now.start ≡ at + 3 }
+    requires size { length all.now ≡ 256 }
+    requires own { (byte : ℕ) → byte < 256 → slice_index all.now byte ≡ byte }
+    ensures items { AreItems bytes.now result }
+    ensures start { result.start ≡ at }
+{
+    let low = bytes[at];
+    let middle = bytes[at + 1];
+    if middle == b'-' {
+        if is_item(bytes[at + 2]) && is_item(bytes[at + 3]) {
+            return third.after(at, low, bytes[at + 2], all);
+        }
+    } else if is_item(middle) {
+        return next.after(at, low, low, all);
+    }
+    Items::none(at)
+}
+
+/// Returns whether a byte is an item of a set, and not the end of the set or of the prefix.
+fn is_item(byte: u8) -> bool
+    ensures { IsTrue result → byte ≢ closing }
+{
+    byte != b']' && byte != 0
 }

@@ -11,33 +11,6 @@ use std::simd::prelude::*;
 /// The bits of a word.
 pub(crate) const BITS: usize = 64;
 
-/// Returns which of the bytes are at least this one, with a bit for each.
-#[inline(always)]
-fn at_least(bytes: u8x64, low: u8) -> u64
-    ensures { result ≡ mask_l (map (λ byte. nat_le low byte) bytes) }
-{
-    bytes.simd_ge(u8x64::splat(low)).to_bitmask()
-}
-
-/// Returns which of the bytes are at most this one, with a bit for each.
-#[inline(always)]
-fn at_most(bytes: u8x64, high: u8) -> u64
-    ensures { result ≡ mask_l (map (λ byte. nat_le byte high) bytes) }
-{
-    bytes.simd_le(u8x64::splat(high)).to_bitmask()
-}
-
-/// Returns which of the first 64 bytes are in a range, with a bit for each.
-#[inline(always)]
-fn in_range(bytes: &[u8], low: u8, high: u8) -> u64
-    requires { BITS ≤ length bytes.now }
-    ensures { (i : ℕ) → i < BITS
-        → bit_at result i ≡ bit (is_between low high (slice_index bytes.now i)) }
-{
-    let bytes = u8x64::from_slice(bytes);
-    at_least(bytes, low) & at_most(bytes, high)
-}
-
 /// Drops all places.
 pub(crate) fn clear(words: &mut [u64])
     ensures { HasBits words.new (λ n. false) }
@@ -188,6 +161,32 @@ pub(crate) fn set_only(words: &mut [u64], place: usize)
     words[place / BITS] = 1 << (place % BITS);
 }
 
+/// Returns whether some place is in both. The bits of the first words begin at a place.
+pub(crate) fn meet(reached: &[u64], first: usize, words: &[u64]) -> bool
+    requires { first + BITS * length reached.now < 2 ^ 64 }
+    ensures { (some other : ℕ → Bool) → HasPlaces first reached.now some → HasBits words.now other
+        → ((n : ℕ) → BITS * length words.now ≤ n → other n ≡ false)
+        → (IsTrue result ↔ ((n : ℕ) × (some n ≡ true) × (other n ≡ true))) }
+{
+    for at in 0..reached.len() {
+        if reached[at] & word_from(words, first + at * BITS) != 0 {
+            return true;
+        }
+    }
+    false
+}
+
+/// Returns which of the first 64 bytes are in a range, with a bit for each.
+#[inline(always)]
+fn in_range(bytes: &[u8], low: u8, high: u8) -> u64
+    requires { BITS ≤ length bytes.now }
+    ensures { (i : ℕ) → i < BITS
+        → bit_at result i ≡ bit (is_between low high (slice_index bytes.now i)) }
+{
+    let bytes = u8x64::from_slice(bytes);
+    at_least(bytes, low) & at_most(bytes, high)
+}
+
 /// Returns the 64 bits from a place on. There is no place after the words.
 fn word_from(words: &[u64], place: usize) -> u64
     ensures { (test : ℕ → Bool) → HasBits words.now test
@@ -210,17 +209,18 @@ fn word_from(words: &[u64], place: usize) -> u64
     words[at] >> low | next << (BITS - low)
 }
 
-/// Returns whether some place is in both. The bits of the first words begin at a place.
-pub(crate) fn meet(reached: &[u64], first: usize, words: &[u64]) -> bool
-    requires { first + BITS * length reached.now < 2 ^ 64 }
-    ensures { (some other : ℕ → Bool) → HasPlaces first reached.now some → HasBits words.now other
-        → ((n : ℕ) → BITS * length words.now ≤ n → other n ≡ false)
-        → (IsTrue result ↔ ((n : ℕ) × (some n ≡ true) × (other n ≡ true))) }
+/// Returns which of the bytes are at least this one, with a bit for each.
+#[inline(always)]
+fn at_least(bytes: u8x64, low: u8) -> u64
+    ensures { result ≡ mask_l (map (λ byte. nat_le low byte) bytes) }
 {
-    for at in 0..reached.len() {
-        if reached[at] & word_from(words, first + at * BITS) != 0 {
-            return true;
-        }
-    }
-    false
+    bytes.simd_ge(u8x64::splat(low)).to_bitmask()
+}
+
+/// Returns which of the bytes are at most this one, with a bit for each.
+#[inline(always)]
+fn at_most(bytes: u8x64, high: u8) -> u64
+    ensures { result ≡ mask_l (map (λ byte. nat_le byte high) bytes) }
+{
+    bytes.simd_le(u8x64::splat(high)).to_bitmask()
 }

@@ -31,6 +31,13 @@ pub(crate) fn class_of(section: &Section) -> Class
     }
 }
 
+/// Returns whether a section is in memory, in this class.
+pub(crate) fn is_in(class: Class, section: &Section) -> bool
+    ensures { result ≡ is_in class section.now }
+{
+    section.kept && are_one(class, class_of(section))
+}
+
 /// Returns whether the two classes are the same.
 fn are_one(class: Class, other: Class) -> bool
     ensures { result ≡ is_class class other }
@@ -43,11 +50,4 @@ fn are_one(class: Class, other: Class) -> bool
         | (Class::Fixed, Class::Code | Class::Variable)
         | (Class::Variable, Class::Code | Class::Fixed) => false,
     }
-}
-
-/// Returns whether a section is in memory, in this class.
-pub(crate) fn is_in(class: Class, section: &Section) -> bool
-    ensures { result ≡ is_in class section.now }
-{
-    section.kept && are_one(class, class_of(section))
 }

@@ -22,24 +22,6 @@ pub(crate) fn aligned(place: u128, align: u64) -> u128
     align * ((place + (align - 1)) / align)
 }
 
-/// Returns the end of a class after this section. `end` is the end of the earlier sections of the
-/// class.
-#[tactic(auto, using(crate::proofs::Aligning::alignment_small))]
-fn end_with(class: Class, section: &Section, end: u128) -> u128
-    requires end { end < 2 ^ 110 }
-    requires aligned { section.now.kept ≡ true → is_alignment section.now.align ≡ true }
-    ensures end { result
-        ≡ (if is_in class section.now
-        then aligned end section.now.align + section.now.size
-        else end) }
-    ensures near { result ≤ end + 2 ^ 65 }
-{
-    if !is_in(class, section) {
-        return end;
-    }
-    aligned(end, section.align) + u128::from(section.size)
-}
-
 /// Returns the end of a class that begins at `start`, after the first `count` sections of the
 /// object.
 pub(crate) fn end_of_first(object: &Object, class: Class, start: u128, count: u32) -> u128
@@ -64,4 +46,22 @@ pub(crate) fn end_of_class(object: &Object, class: Class, start: u128) -> u128
     ensures near { result ≤ start + 2 ^ 90 }
 {
     end_of_first(object, class, start, object.section_count())
+}
+
+/// Returns the end of a class after this section. `end` is the end of the earlier sections of the
+/// class.
+#[tactic(auto, using(crate::proofs::Aligning::alignment_small))]
+fn end_with(class: Class, section: &Section, end: u128) -> u128
+    requires end { end < 2 ^ 110 }
+    requires aligned { section.now.kept ≡ true → is_alignment section.now.align ≡ true }
+    ensures end { result
+        ≡ (if is_in class section.now
+        then aligned end section.now.align + section.now.size
+        else end) }
+    ensures near { result ≤ end + 2 ^ 65 }
+{
+    if !is_in(class, section) {
+        return end;
+    }
+    aligned(end, section.align) + u128::from(section.size)
 }

@@ -16,60 +16,6 @@ use raw_image::Image;
 use std::alloc::Global;
 use x86_relocate::{Overflow, Patch, write_word};
 
-/// Returns the patch of a relocation, in an image at a base, by the addresses of the symbols.
-#[tactic(auto, unfolding(crate::specs::Laid::patch_of), using(crate::proofs::SymbolLemmas::offset_at, crate::proofs::SymbolLemmas::length_layout, crate::proofs::SymbolLemmas::wrapped_place))]
-fn patch_of(
-    object: &Object,
-    layout: &Layout,
-    base: u64,
-    addresses: &[u64],
-    place: &RelaPlace,
-) -> Patch
-    requires layout { layout.now ≡ offsets object.now.sections }
-    requires target { place.now.target < length object.now.sections }
-    requires symbol { place.now.symbol < length addresses.now }
-    ensures { result ≡ patch_of object.now base addresses.now place.now }
-{
-    let at = layout.offset(place.target).wrapping_add(place.offset);
-    Patch {
-        section: place.section,
-        entry: place.entry,
-        at: at as usize,
-        kind: place.kind,
-        s: addresses[place.symbol as usize],
-        a: place.addend,
-        p: base.wrapping_add(at),
-    }
-}
-
-/// Writes the words of all relocations into the image of an object at a base, in one pass.
-fn relocate(
-    image: &mut Image,
-    object: &Object,
-    layout: &Layout,
-    base: u64,
-    addresses: &[u64],
-) -> Result<(), Overflow>
-    requires fits { image_size object.now.sections < 2 ^ 63 }
-    requires image { length image.old ≡ image_size object.now.sections }
-    requires layout { layout.now ≡ offsets object.now.sections }
-    requires addresses { length addresses.now ≡ length object.now.symbols }
-    ensures overflow { result_err result ≡ overflow object.now base addresses.now }
-    ensures image { OnOk result
-        (image.new ≡ patched image.old (patches object.now base addresses.now)) }
-{
-    for i in 0..object.place_count() {
-        let patch = patch_of(object, layout, base, addresses, object.place(i));
-        if write_word(image, &patch).is_err() {
-            return Err(Overflow {
-                section: patch.section,
-                entry: patch.entry,
-            });
-        }
-    }
-    Ok(())
-}
-
 /// Returns the image of an object at a base, by the addresses of its symbols: the bytes of its
 /// sections, with the word of each relocation at its place. It is made in one block. x86-64 psABI,
 /// "Relocation".
@@ -100,4 +46,58 @@ pub fn image_at(
     let mut image = plain_image(alloc, object, layout)?;
     relocate(&mut image, object, layout, base, addresses)?;
     Ok(image)
+}
+
+/// Writes the words of all relocations into the image of an object at a base, in one pass.
+fn relocate(
+    image: &mut Image,
+    object: &Object,
+    layout: &Layout,
+    base: u64,
+    addresses: &[u64],
+) -> Result<(), Overflow>
+    requires fits { image_size object.now.sections < 2 ^ 63 }
+    requires image { length image.old ≡ image_size object.now.sections }
+    requires layout { layout.now ≡ offsets object.now.sections }
+    requires addresses { length addresses.now ≡ length object.now.symbols }
+    ensures overflow { result_err result ≡ overflow object.now base addresses.now }
+    ensures image { OnOk result
+        (image.new ≡ patched image.old (patches object.now base addresses.now)) }
+{
+    for i in 0..object.place_count() {
+        let patch = patch_of(object, layout, base, addresses, object.place(i));
+        if write_word(image, &patch).is_err() {
+            return Err(Overflow {
+                section: patch.section,
+                entry: patch.entry,
+            });
+        }
+    }
+    Ok(())
+}
+
+/// Returns the patch of a relocation, in an image at a base, by the addresses of the symbols.
+#[tactic(auto, unfolding(crate::specs::Laid::patch_of), using(crate::proofs::SymbolLemmas::offset_at, crate::proofs::SymbolLemmas::length_layout, crate::proofs::SymbolLemmas::wrapped_place))]
+fn patch_of(
+    object: &Object,
+    layout: &Layout,
+    base: u64,
+    addresses: &[u64],
+    place: &RelaPlace,
+) -> Patch
+    requires layout { layout.now ≡ offsets object.now.sections }
+    requires target { place.now.target < length object.now.sections }
+    requires symbol { place.now.symbol < length addresses.now }
+    ensures { result ≡ patch_of object.now base addresses.now place.now }
+{
+    let at = layout.offset(place.target).wrapping_add(place.offset);
+    Patch {
+        section: place.section,
+        entry: place.entry,
+        at: at as usize,
+        kind: place.kind,
+        s: addresses[place.symbol as usize],
+        a: place.addend,
+        p: base.wrapping_add(at),
+    }
 }

@@ -25,32 +25,23 @@ pub(crate) struct Ends {
     pub(crate) variable: u128,
 }
 
-/// Returns the beginnings of the classes.
-#[tactic(auto, unfolding(crate::specs::Offsets::fixed_start, crate::specs::Offsets::variable_start, crate::specs::Offsets::end_of))]
-fn class_starts(object: &Object) -> Ends
-    ensures starts { AreEnds object.now.sections [] result }
-    ensures near { AreNear result }
-{
-    let code_end = end_of_class(object, Class::Code, 0);
-    let fixed = aligned(code_end, PAGE);
-    let fixed_end = end_of_class(object, Class::Fixed, fixed);
-    Ends {
-        code: 0,
-        fixed,
-        variable: aligned(fixed_end, PAGE),
-    }
-}
-
-/// Returns the beginning of a class.
-fn start_of(object: &Object, class: Class) -> u128
-    ensures start { result ≡ class_start object.now.sections class }
-    ensures near { result < 2 ^ 95 }
-{
-    let starts = class_starts(object);
-    match class {
-        Class::Code => starts.code,
-        Class::Fixed => starts.fixed,
-        Class::Variable => starts.variable,
+impl Ends {
+    /// Places a section in its class, whose end becomes the section's, and returns its place.
+    #[tactic(auto, unfolding(crate::specs::Offsets::offset_after))]
+    fn place(&mut self, section: &Section) -> u128
+        requires near { AreNear self.old }
+        requires aligned { is_alignment section.now.align ≡ true }
+        ensures at { result ≡ aligned (end_in self.old (class_of section.now)) section.now.align }
+        ensures ends { (class : Class) → end_in self.new class
+            ≡ (if is_class class (class_of section.now)
+            then aligned (end_in self.old class) section.now.align + section.now.size
+            else end_in self.old class) }
+    {
+        match class_of(section) {
+            Class::Code => place_at(&mut self.code, section),
+            Class::Fixed => place_at(&mut self.fixed, section),
+            Class::Variable => place_at(&mut self.variable, section),
+        }
     }
 }
 
@@ -85,53 +76,6 @@ pub fn image_size(object: &Object) -> u128
     } else {
         u128::from(PAGE)
     }
-}
-
-/// Places a section at the next multiple of its alignment. Returns its place, and moves `end` to
-/// its end.
-#[tactic(auto, using(crate::proofs::Aligning::alignment_small))]
-fn place_at(end: &mut u128, section: &Section) -> u128
-    requires end { end.old < 2 ^ 110 }
-    requires aligned { is_alignment section.now.align ≡ true }
-    ensures at { result ≡ aligned end.old section.now.align }
-    ensures end { end.new ≡ aligned end.old section.now.align + section.now.size }
-    ensures above { result ≤ end.new }
-{
-    let at = aligned(*end, section.align);
-    *end = at + u128::from(section.size);
-    at
-}
-
-impl Ends {
-    /// Places a section in its class, whose end becomes the section's, and returns its place.
-    #[tactic(auto, unfolding(crate::specs::Offsets::offset_after))]
-    fn place(&mut self, section: &Section) -> u128
-        requires near { AreNear self.old }
-        requires aligned { is_alignment section.now.align ≡ true }
-        ensures at { result ≡ aligned (end_in self.old (class_of section.now)) section.now.align }
-        ensures ends { (class : Class) → end_in self.new class
-            ≡ (if is_class class (class_of section.now)
-            then aligned (end_in self.old class) section.now.align + section.now.size
-            else end_in self.old class) }
-    {
-        match class_of(section) {
-            Class::Code => place_at(&mut self.code, section),
-            Class::Fixed => place_at(&mut self.fixed, section),
-            Class::Variable => place_at(&mut self.variable, section),
-        }
-    }
-}
-
-/// Returns the place of a section, by the ends of the classes with the sections before it, and adds
-/// it to its class.
-fn next_offset(ends: &mut Ends, section: &Section) -> u128
-    requires near { AreNear ends.old }
-    requires aligned { section.now.kept ≡ true → is_alignment section.now.align ≡ true }
-    ensures { (sections : List Section) (i : ℕ) → slice_get sections i ≡ Some section.now
-        → AreEnds sections (take i sections) ends.old
-        → (result ≡ offset sections i) × AreEnds sections (take (i + 1) sections) ends.new }
-{
-    if section.kept { ends.place(section) } else { 0 }
 }
 
 /// The place of each section of an object in its image. Contracts see the list of these places.
@@ -171,4 +115,60 @@ impl Layout {
     {
         self.offsets[i as usize]
     }
+}
+
+/// Places a section at the next multiple of its alignment. Returns its place, and moves `end` to
+/// its end.
+#[tactic(auto, using(crate::proofs::Aligning::alignment_small))]
+fn place_at(end: &mut u128, section: &Section) -> u128
+    requires end { end.old < 2 ^ 110 }
+    requires aligned { is_alignment section.now.align ≡ true }
+    ensures at { result ≡ aligned end.old section.now.align }
+    ensures end { end.new ≡ aligned end.old section.now.align + section.now.size }
+    ensures above { result ≤ end.new }
+{
+    let at = aligned(*end, section.align);
+    *end = at + u128::from(section.size);
+    at
+}
+
+/// Returns the beginning of a class.
+fn start_of(object: &Object, class: Class) -> u128
+    ensures start { result ≡ class_start object.now.sections class }
+    ensures near { result < 2 ^ 95 }
+{
+    let starts = class_starts(object);
+    match class {
+        Class::Code => starts.code,
+        Class::Fixed => starts.fixed,
+        Class::Variable => starts.variable,
+    }
+}
+
+/// Returns the beginnings of the classes.
+#[tactic(auto, unfolding(crate::specs::Offsets::fixed_start, crate::specs::Offsets::variable_start, crate::specs::Offsets::end_of))]
+fn class_starts(object: &Object) -> Ends
+    ensures starts { AreEnds object.now.sections [] result }
+    ensures near { AreNear result }
+{
+    let code_end = end_of_class(object, Class::Code, 0);
+    let fixed = aligned(code_end, PAGE);
+    let fixed_end = end_of_class(object, Class::Fixed, fixed);
+    Ends {
+        code: 0,
+        fixed,
+        variable: aligned(fixed_end, PAGE),
+    }
+}
+
+/// Returns the place of a section, by the ends of the classes with the sections before it, and adds
+/// it to its class.
+fn next_offset(ends: &mut Ends, section: &Section) -> u128
+    requires near { AreNear ends.old }
+    requires aligned { section.now.kept ≡ true → is_alignment section.now.align ≡ true }
+    ensures { (sections : List Section) (i : ℕ) → slice_get sections i ≡ Some section.now
+        → AreEnds sections (take i sections) ends.old
+        → (result ≡ offset sections i) × AreEnds sections (take (i + 1) sections) ends.new }
+{
+    if section.kept { ends.place(section) } else { 0 }
 }

@@ -9,19 +9,6 @@ use elf_object::Object;
 use raw_image::Image;
 use std::alloc::{AllocError, Global};
 
-/// Returns the bytes of the section `i` in the image: the file's, if the section is in memory.
-#[tactic(auto, using(crate::proofs::PlainLemmas::piece_kept, crate::proofs::PlainLemmas::piece_unkept))]
-fn bytes_in_memory(object: &Object, i: u32) -> &[u8]
-    requires { i < length object.now.sections }
-    ensures { result.now ≡ (piece object.now i).bytes }
-{
-    if object.section(i).kept {
-        object.section_bytes(i)
-    } else {
-        &[]
-    }
-}
-
 /// Returns the image of an object before any relocation: each section is copied from the file, into
 /// one block.
 pub(crate) fn plain_image(
@@ -38,4 +25,17 @@ pub(crate) fn plain_image(
         image.copy_in(layout.offset(i) as usize, bytes_in_memory(object, i));
     }
     Ok(image)
+}
+
+/// Returns the bytes of the section `i` in the image: the file's, if the section is in memory.
+#[tactic(auto, using(crate::proofs::PlainLemmas::piece_kept, crate::proofs::PlainLemmas::piece_unkept))]
+fn bytes_in_memory(object: &Object, i: u32) -> &[u8]
+    requires { i < length object.now.sections }
+    ensures { result.now ≡ (piece object.now i).bytes }
+{
+    if object.section(i).kept {
+        object.section_bytes(i)
+    } else {
+        &[]
+    }
 }

@@ -44,16 +44,6 @@ pub(crate) struct Pending {
     pub(crate) left: usize,
 }
 
-/// Returns whether this number is at a place. Its last byte isn't 0, so it isn't there if the file
-/// ends before.
-fn has_number(bytes: &[u8], at: usize, number: u32) -> bool
-    requires place { at ≤ 4 }
-    requires last { 0 < number % 256 }
-    ensures { result ≡ (be bytes.now at 4 == number) }
-{
-    bytes.len() >= at + 4 && be_u32_at(bytes, at) == number
-}
-
 /// Returns the children of a node.
 #[inline(always)]
 pub(crate) fn children_of(bytes: &[u8], node: &Node) -> Pending
@@ -76,13 +66,6 @@ pub(crate) fn children_of(bytes: &[u8], node: &Node) -> Pending
         next: node.children + 2,
         left: usize::from(last - first) + 1,
     }
-}
-
-/// Returns whether a node has a field.
-fn has_field(link: u32) -> bool
-    ensures { result ≡ (has_prefix link || (has_values link || has_children link)) }
-{
-    link & HAS_PREFIX != 0 || link & HAS_VALUES != 0 || link & HAS_CHILDREN != 0
 }
 
 /// Reads the node of a visit. Returns `None` if it isn't sound.
@@ -115,6 +98,93 @@ pub(crate) fn sound_node(
         Ok(Some(node))
     } else {
         Ok(None)
+    }
+}
+
+/// Checks that the bytes are an index, by the tests of the reader in their order.
+pub(crate) fn check(alloc: Global, bytes: &[u8], ends: &TextEnds) -> Result<(), IndexFault>
+    requires { AreTextEnds bytes.now ends.now }
+    ensures fault { IfErr result (IsFirstFault (index_fault bytes.now)) }
+    ensures passes { OnOk result (index_fault bytes.now ≡ None) }
+{
+    if !has_number(bytes, 0, MAGIC) {
+        return Err(IndexFault::BadMagic);
+    }
+    if !has_number(bytes, 4, VERSION) {
+        return Err(IndexFault::BadVersion);
+    }
+    if bytes.len() < FIRST_PLACE as usize {
+        return Err(IndexFault::BadNode { offset: 8 });
+    }
+    check_nodes(alloc, bytes, ends)
+}
+
+/// Returns whether a node has a field.
+fn has_field(link: u32) -> bool
+    ensures { result ≡ (has_prefix link || (has_values link || has_children link)) }
+{
+    link & HAS_PREFIX != 0 || link & HAS_VALUES != 0 || link & HAS_CHILDREN != 0
+}
+
+/// Returns whether this number is at a place. Its last byte isn't 0, so it isn't there if the file
+/// ends before.
+fn has_number(bytes: &[u8], at: usize, number: u32) -> bool
+    requires place { at ≤ 4 }
+    requires last { 0 < number % 256 }
+    ensures { result ≡ (be bytes.now at 4 == number) }
+{
+    bytes.len() >= at + 4 && be_u32_at(bytes, at) == number
+}
+
+/// Visits all nodes of a file.
+fn check_nodes(alloc: Global, bytes: &[u8], ends: &TextEnds) -> Result<(), IndexFault>
+    requires first { FIRST_PLACE ≤ length bytes.now }
+    requires ends { AreTextEnds bytes.now ends.now }
+    ensures fault { IfErr result (IsFirstFault (nodes_fault bytes.now)) }
+    ensures passes { OnOk result (nodes_fault bytes.now ≡ None) }
+{
+    if check_in_order(alloc, bytes, ends)? {
+        return Ok(());
+    }
+    check_in_any_order(alloc, bytes, ends)
+}
+
+/// Visits all nodes of a file in any order. The places that were visited are in a set.
+fn check_in_any_order(alloc: Global, bytes: &[u8], ends: &TextEnds) -> Result<(), IndexFault>
+    requires first { FIRST_PLACE ≤ length bytes.now }
+    requires ends { AreTextEnds bytes.now ends.now }
+    ensures fault { IfErr result (IsFirstFault (nodes_fault bytes.now)) }
+    ensures passes { OnOk result (nodes_fault bytes.now ≡ None) }
+{
+    let mut visited = PlaceSet::new(alloc, bytes.len())?;
+    let mut starts = ValueStarts::new(alloc, bytes)?;
+    let root = Visit {
+        above: bytes.len() + 1,
+        is_root: true,
+        link: be_u32_at(bytes, 8),
+    };
+    let mut above = Vec::new(alloc);
+    let mut level = visit_node(bytes, ends, &root, &mut visited, &mut starts)?;
+    'level: loop {
+        let Some((link, rest)) = next_child(bytes, &level) else {
+            match above.pop() {
+                Some(pending) => level = pending,
+                None => return Ok(()),
+            }
+            continue;
+        };
+        let child = Visit {
+            above: level.above as usize,
+            is_root: false,
+            link,
+        };
+        let below = visit_node(bytes, ends, &child, &mut visited, &mut starts)?;
+        if below.left == 0 {
+            level = rest;
+        } else {
+            push_pending(&mut above, rest)?;
+            level = below;
+        }
     }
 }
 
@@ -192,74 +262,4 @@ fn push_pending(stack: &mut Vec<Pending>, pending: Pending) -> Result<(), AllocE
         stack.push(pending)?;
     }
     Ok(())
-}
-
-/// Visits all nodes of a file in any order. The places that were visited are in a set.
-fn check_in_any_order(alloc: Global, bytes: &[u8], ends: &TextEnds) -> Result<(), IndexFault>
-    requires first { FIRST_PLACE ≤ length bytes.now }
-    requires ends { AreTextEnds bytes.now ends.now }
-    ensures fault { IfErr result (IsFirstFault (nodes_fault bytes.now)) }
-    ensures passes { OnOk result (nodes_fault bytes.now ≡ None) }
-{
-    let mut visited = PlaceSet::new(alloc, bytes.len())?;
-    let mut starts = ValueStarts::new(alloc, bytes)?;
-    let root = Visit {
-        above: bytes.len() + 1,
-        is_root: true,
-        link: be_u32_at(bytes, 8),
-    };
-    let mut above = Vec::new(alloc);
-    let mut level = visit_node(bytes, ends, &root, &mut visited, &mut starts)?;
-    'level: loop {
-        let Some((link, rest)) = next_child(bytes, &level) else {
-            match above.pop() {
-                Some(pending) => level = pending,
-                None => return Ok(()),
-            }
-            continue;
-        };
-        let child = Visit {
-            above: level.above as usize,
-            is_root: false,
-            link,
-        };
-        let below = visit_node(bytes, ends, &child, &mut visited, &mut starts)?;
-        if below.left == 0 {
-            level = rest;
-        } else {
-            push_pending(&mut above, rest)?;
-            level = below;
-        }
-    }
-}
-
-/// Visits all nodes of a file.
-fn check_nodes(alloc: Global, bytes: &[u8], ends: &TextEnds) -> Result<(), IndexFault>
-    requires first { FIRST_PLACE ≤ length bytes.now }
-    requires ends { AreTextEnds bytes.now ends.now }
-    ensures fault { IfErr result (IsFirstFault (nodes_fault bytes.now)) }
-    ensures passes { OnOk result (nodes_fault bytes.now ≡ None) }
-{
-    if check_in_order(alloc, bytes, ends)? {
-        return Ok(());
-    }
-    check_in_any_order(alloc, bytes, ends)
-}
-
-/// Checks that the bytes are an index, by the tests of the reader in their order.
-pub(crate) fn check(alloc: Global, bytes: &[u8], ends: &TextEnds) -> Result<(), IndexFault>
-    requires { AreTextEnds bytes.now ends.now }
-    ensures fault { IfErr result (IsFirstFault (index_fault bytes.now)) }
-    ensures passes { OnOk result (index_fault bytes.now ≡ None) }
-{
-    if !has_number(bytes, 0, MAGIC) {
-        return Err(IndexFault::BadMagic);
-    }
-    if !has_number(bytes, 4, VERSION) {
-        return Err(IndexFault::BadVersion);
-    }
-    if bytes.len() < FIRST_PLACE as usize {
-        return Err(IndexFault::BadNode { offset: 8 });
-    }
-    check_nodes(alloc, bytes, ends)
 }

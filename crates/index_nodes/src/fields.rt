@@ -29,6 +29,46 @@ pub(crate) fn place(link: u32) -> u32
     link & PLACE_MASK
 }
 
+/// Returns the node to which an offset leads, or `None` if its prefix or its children aren't whole.
+#[inline(always)]
+pub(crate) fn node_at(bytes: &[u8], ends: &TextEnds, link: u32) -> Option<Node>
+    requires ends { AreTextEnds bytes.now ends.now }
+    requires within { place_of link ≤ length bytes.now }
+    ensures { MatchOption result
+        ((prefix_fits bytes.now link && children_fit bytes.now link) ≡ false)
+        (λ n. ((prefix_fits bytes.now link && children_fit bytes.now link) ≡ true)
+        × (n.link ≡ link) × HasFields bytes.now n) }
+{
+    let children = prefix_end(bytes, ends, link)?;
+    let values = children_end(bytes, link, children)?;
+    Some(Node {
+        link,
+        children,
+        values,
+    })
+}
+
+/// Returns whether the values of a node are whole.
+pub(crate) fn has_whole_values(
+    bytes: &[u8],
+    node: &Node,
+    starts: &mut ValueStarts,
+) -> Result<bool, AllocError>
+    requires fields { HasFields bytes.now node.now }
+    requires starts { AreValueStarts bytes.now starts.old }
+    ensures whole { IfOk result (λ whole. whole ≡ values_fit bytes.now node.now.link) }
+    ensures starts { AreValueStarts bytes.now starts.new }
+{
+    if node.link & HAS_VALUES == 0 {
+        return Ok(true);
+    }
+    if bytes.len() - node.values < COUNT_SIZE {
+        return Ok(false);
+    }
+    let count = be_u32_at(bytes, node.values);
+    starts.are_whole(bytes, count, node.values + COUNT_SIZE)
+}
+
 /// Returns where the prefix of a node ends, or `None` if it isn't whole.
 fn prefix_end(bytes: &[u8], ends: &TextEnds, link: u32) -> Option<usize>
     requires ends { AreTextEnds bytes.now ends.now }
@@ -74,44 +114,4 @@ fn children_end(bytes: &[u8], link: u32, start: usize) -> Option<usize>
     } else {
         None
     }
-}
-
-/// Returns the node to which an offset leads, or `None` if its prefix or its children aren't whole.
-#[inline(always)]
-pub(crate) fn node_at(bytes: &[u8], ends: &TextEnds, link: u32) -> Option<Node>
-    requires ends { AreTextEnds bytes.now ends.now }
-    requires within { place_of link ≤ length bytes.now }
-    ensures { MatchOption result
-        ((prefix_fits bytes.now link && children_fit bytes.now link) ≡ false)
-        (λ n. ((prefix_fits bytes.now link && children_fit bytes.now link) ≡ true)
-        × (n.link ≡ link) × HasFields bytes.now n) }
-{
-    let children = prefix_end(bytes, ends, link)?;
-    let values = children_end(bytes, link, children)?;
-    Some(Node {
-        link,
-        children,
-        values,
-    })
-}
-
-/// Returns whether the values of a node are whole.
-pub(crate) fn has_whole_values(
-    bytes: &[u8],
-    node: &Node,
-    starts: &mut ValueStarts,
-) -> Result<bool, AllocError>
-    requires fields { HasFields bytes.now node.now }
-    requires starts { AreValueStarts bytes.now starts.old }
-    ensures whole { IfOk result (λ whole. whole ≡ values_fit bytes.now node.now.link) }
-    ensures starts { AreValueStarts bytes.now starts.new }
-{
-    if node.link & HAS_VALUES == 0 {
-        return Ok(true);
-    }
-    if bytes.len() - node.values < COUNT_SIZE {
-        return Ok(false);
-    }
-    let count = be_u32_at(bytes, node.values);
-    starts.are_whole(bytes, count, node.values + COUNT_SIZE)
 }

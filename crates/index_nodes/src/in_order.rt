@@ -18,57 +18,20 @@ use std::alloc::{AllocError, Global};
 /// kernel have fewer than a hundred at a time.
 const ROOM: usize = 1024;
 
-/// Puts the offsets of children that are present after the first `count` offsets, and returns how
-/// many there are then.
-#[inline(always)]
-fn put_links(bytes: &[u8], children: &Pending, links: &mut [u32], count: usize) -> usize
-    requires inside { IsInside bytes.now children.now }
-    requires room { count + children.now.left ≤ length links.old }
-    ensures room { length links.new ≡ length links.old }
-    ensures within { result ≤ length links.new }
-    ensures links { take result links.new
-        ≡ take count links.old ++ links_of bytes.now children.now }
-{
-    let mut filled = count;
-    for n in 0..children.left {
-        let link = be_u32_at(bytes, children.next + OFFSET_SIZE * n);
-        links[filled] = link;
-        filled += usize::from(place(link) != 0);
-    }
-    filled
-}
-
-/// Visits a node, and puts the offsets of its children after the first `count` offsets. Returns how
-/// many there are then, or `None` if the node has a fault or there is no room.
-#[inline(always)]
-fn visit_lower(
+/// Visits all nodes of a file that is in a writer's order. Returns false if it isn't, or if a node
+/// has a fault; then nothing is known of the file.
+pub(crate) fn check_in_order(
+    alloc: Global,
     bytes: &[u8],
     ends: &TextEnds,
-    visit: &Visit,
-    starts: &mut ValueStarts,
-    links: &mut [u32],
-    count: usize,
-) -> Result<Option<usize>, AllocError>
+) -> Result<bool, AllocError>
+    requires first { FIRST_PLACE ≤ length bytes.now }
     requires ends { AreTextEnds bytes.now ends.now }
-    requires starts { AreValueStarts bytes.now starts.old }
-    requires count { count ≤ length links.old }
-    ensures starts { AreValueStarts bytes.now starts.new }
-    ensures within { IfOk result (λ o. IfSome o (λ n. n ≤ length links.new)) }
-    ensures visited { IfOk result
-        (λ o. IfSome o
-        (λ n. IsVisited bytes.now visit.now (take count links.old) (take n links.new))) }
+    ensures { IfOk result (λ whole. whole ≡ true → nodes_fault bytes.now ≡ None) }
 {
-    if place(visit.link) as usize >= visit.above {
-        return Ok(None);
-    }
-    let Some(node) = sound_node(bytes, ends, visit, starts)? else {
-        return Ok(None);
-    };
-    let children = children_of(bytes, &node);
-    if children.left > links.len() - count {
-        return Ok(None);
-    }
-    Ok(Some(put_links(bytes, &children, links, count)))
+    let mut starts = ValueStarts::new(alloc, bytes)?;
+    let mut links = vec![in alloc; 0u32; ROOM]?;
+    visit_falling(bytes, ends, &mut starts, links.as_mut_slice())
 }
 
 /// Visits all nodes of a file from the last one on, as long as their places fall. Returns false if
@@ -108,18 +71,55 @@ fn visit_falling(
     Ok(true)
 }
 
-/// Visits all nodes of a file that is in a writer's order. Returns false if it isn't, or if a node
-/// has a fault; then nothing is known of the file.
-pub(crate) fn check_in_order(
-    alloc: Global,
+/// Visits a node, and puts the offsets of its children after the first `count` offsets. Returns how
+/// many there are then, or `None` if the node has a fault or there is no room.
+#[inline(always)]
+fn visit_lower(
     bytes: &[u8],
     ends: &TextEnds,
-) -> Result<bool, AllocError>
-    requires first { FIRST_PLACE ≤ length bytes.now }
+    visit: &Visit,
+    starts: &mut ValueStarts,
+    links: &mut [u32],
+    count: usize,
+) -> Result<Option<usize>, AllocError>
     requires ends { AreTextEnds bytes.now ends.now }
-    ensures { IfOk result (λ whole. whole ≡ true → nodes_fault bytes.now ≡ None) }
+    requires starts { AreValueStarts bytes.now starts.old }
+    requires count { count ≤ length links.old }
+    ensures starts { AreValueStarts bytes.now starts.new }
+    ensures within { IfOk result (λ o. IfSome o (λ n. n ≤ length links.new)) }
+    ensures visited { IfOk result
+        (λ o. IfSome o
+        (λ n. IsVisited bytes.now visit.now (take count links.old) (take n links.new))) }
 {
-    let mut starts = ValueStarts::new(alloc, bytes)?;
-    let mut links = vec![in alloc; 0u32; ROOM]?;
-    visit_falling(bytes, ends, &mut starts, links.as_mut_slice())
+    if place(visit.link) as usize >= visit.above {
+        return Ok(None);
+    }
+    let Some(node) = sound_node(bytes, ends, visit, starts)? else {
+        return Ok(None);
+    };
+    let children = children_of(bytes, &node);
+    if children.left > links.len() - count {
+        return Ok(None);
+    }
+    Ok(Some(put_links(bytes, &children, links, count)))
+}
+
+/// Puts the offsets of children that are present after the first `count` offsets, and returns how
+/// many there are then.
+#[inline(always)]
+fn put_links(bytes: &[u8], children: &Pending, links: &mut [u32], count: usize) -> usize
+    requires inside { IsInside bytes.now children.now }
+    requires room { count + children.now.left ≤ length links.old }
+    ensures room { length links.new ≡ length links.old }
+    ensures within { result ≤ length links.new }
+    ensures links { take result links.new
+        ≡ take count links.old ++ links_of bytes.now children.now }
+{
+    let mut filled = count;
+    for n in 0..children.left {
+        let link = be_u32_at(bytes, children.next + OFFSET_SIZE * n);
+        links[filled] = link;
+        filled += usize::from(place(link) != 0);
+    }
+    filled
 }

@@ -59,22 +59,6 @@ pub(crate) fn range_of(bytes: &[u8], node: &Node) -> Option<(u8, u8)>
     }
 }
 
-/// Returns the offset of the child of a node for a byte of its range, whose first byte is `first`.
-#[inline(always)]
-fn link_in(bytes: &[u8], node: &Node, first: u8, byte: u8) -> Option<u32>
-    requires fields { HasFields bytes.now node.now }
-    requires fit { children_fit bytes.now node.now.link ≡ true }
-    requires children { has_children node.now.link ≡ true }
-    requires first { first_byte bytes.now node.now.link ≡ first }
-    requires from { first ≤ byte }
-    requires to { byte ≤ last_byte bytes.now node.now.link }
-    ensures { result ≡ child bytes.now node.now.link byte }
-{
-    let at = node.children + 2 + NUMBER_SIZE * usize::from(byte - first);
-    let link = be_u32_at(bytes, at);
-    if place(link) == 0 { None } else { Some(link) }
-}
-
 /// Returns the offset of the child of a node for a byte.
 pub(crate) fn child_link(bytes: &[u8], node: &Node, byte: u8) -> Option<u32>
     requires fields { HasFields bytes.now node.now }
@@ -108,27 +92,6 @@ pub(crate) fn next_link(bytes: &[u8], node: &Node, from: u8) -> Option<(u8, u32)
         }
     }
     None
-}
-
-/// Returns the place of a value from which this many values are left, or `None` if none is left.
-fn place_at(bytes: &[u8], start: usize, left: u32) -> Option<Place>
-    requires within { start ≤ length bytes.now }
-    requires whole { whole_values left (drop start bytes.now) ≡ true }
-    ensures none { IfNone result (values_from bytes.now start left ≡ []) }
-    ensures some { IfSome result
-        (λ at. values_left bytes.now at ≡ values_from bytes.now start left) }
-    ensures first { IfSome result
-        (λ at. slice_get (values_from bytes.now start left) 0 ≡ Some (value_at bytes.now at)) }
-    ensures place { IfSome result (IsPlaceOf bytes.now) }
-{
-    if left == 0 {
-        return None;
-    }
-    Some(Place {
-        start,
-        left,
-        priority: be_u32_at(bytes, start),
-    })
 }
 
 /// Returns the place of a node's first value.
@@ -169,4 +132,41 @@ pub(crate) fn next_place(bytes: &[u8], at: &Place) -> Option<Place>
 {
     let text = text_at(bytes, at);
     place_at(bytes, at.start + NUMBER_SIZE + text.len() + 1, at.left - 1)
+}
+
+/// Returns the offset of the child of a node for a byte of its range, whose first byte is `first`.
+#[inline(always)]
+fn link_in(bytes: &[u8], node: &Node, first: u8, byte: u8) -> Option<u32>
+    requires fields { HasFields bytes.now node.now }
+    requires fit { children_fit bytes.now node.now.link ≡ true }
+    requires children { has_children node.now.link ≡ true }
+    requires first { first_byte bytes.now node.now.link ≡ first }
+    requires from { first ≤ byte }
+    requires to { byte ≤ last_byte bytes.now node.now.link }
+    ensures { result ≡ child bytes.now node.now.link byte }
+{
+    let at = node.children + 2 + NUMBER_SIZE * usize::from(byte - first);
+    let link = be_u32_at(bytes, at);
+    if place(link) == 0 { None } else { Some(link) }
+}
+
+/// Returns the place of a value from which this many values are left, or `None` if none is left.
+fn place_at(bytes: &[u8], start: usize, left: u32) -> Option<Place>
+    requires within { start ≤ length bytes.now }
+    requires whole { whole_values left (drop start bytes.now) ≡ true }
+    ensures none { IfNone result (values_from bytes.now start left ≡ []) }
+    ensures some { IfSome result
+        (λ at. values_left bytes.now at ≡ values_from bytes.now start left) }
+    ensures first { IfSome result
+        (λ at. slice_get (values_from bytes.now start left) 0 ≡ Some (value_at bytes.now at)) }
+    ensures place { IfSome result (IsPlaceOf bytes.now) }
+{
+    if left == 0 {
+        return None;
+    }
+    Some(Place {
+        start,
+        left,
+        priority: be_u32_at(bytes, start),
+    })
 }

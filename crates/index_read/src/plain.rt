@@ -23,16 +23,6 @@ pub fn has_value(index: &Index, key: &[u8]) -> bool
     has_value_over::<Brand>(index, key, Blank::new(1))
 }
 
-fn has_value_over<L: Ledger>(index: &Index, key: &[u8], blank: Blank) -> bool
-    requires ledger { blank.name ≡ L.name }
-    requires parts { blank.parts ≡ L.parts }
-    requires some { 0 < blank.parts }
-    ensures { result ≡ has_value (contents index.now.nodes) key.now }
-{
-    let mut steps = Steps::<L>::new(blank);
-    index.find_one(key, &mut steps).is_some()
-}
-
 /// Finds the text of the first value of the key, or `None` exactly if the key has no value.
 pub fn first_text<'a>(index: &'a Index, key: &[u8]) -> Option<&'a [u8]>
     ensures reached { option_copied result
@@ -41,6 +31,53 @@ pub fn first_text<'a>(index: &'a Index, key: &[u8]) -> Option<&'a [u8]>
         ≡ text_of_first (values_of (contents index.now.nodes) key.now) }
 {
     first_text_over::<Brand>(index, key, Blank::new(1))
+}
+
+/// Finds all values of the key, in their order.
+///
+/// # Errors
+///
+/// Out of memory.
+pub fn values(alloc: Global, index: &Index, key: &[u8]) -> Result<Values, AllocError>
+    ensures { IfOk result
+        (λ found. found_values found ≡ values_of (contents index.now.nodes) key.now) }
+{
+    values_over::<Brand>(alloc, index, key, Blank::new(1))
+}
+
+/// Finds the values of every key that as a pattern matches the text: by rising priority, then by
+/// the bytes of the key, then by place.
+///
+/// # Errors
+///
+/// Out of memory, as by [`Index::wild`].
+pub fn matching(alloc: Global, index: &Index, text: &[u8]) -> Result<Values, AllocError>
+    ensures { IfOk result
+        (λ found. found_values found ≡ wild_values (contents index.now.nodes) text.now) }
+{
+    matching_over::<Brand>(alloc, index, text, Blank::new(1))
+}
+
+/// Lists all keys, each with its values, by the bytes of the keys and then by place.
+///
+/// # Errors
+///
+/// Out of memory, as by [`Index::all`].
+pub fn all_pairs(alloc: Global, index: &Index) -> Result<Pairs, AllocError>
+    ensures { IfOk result
+        (λ pairs. IsListing (values_of (contents index.now.nodes)) (shown_pairs pairs)) }
+{
+    all_pairs_over::<Brand>(alloc, index, Blank::new(1))
+}
+
+fn has_value_over<L: Ledger>(index: &Index, key: &[u8], blank: Blank) -> bool
+    requires ledger { blank.name ≡ L.name }
+    requires parts { blank.parts ≡ L.parts }
+    requires some { 0 < blank.parts }
+    ensures { result ≡ has_value (contents index.now.nodes) key.now }
+{
+    let mut steps = Steps::<L>::new(blank);
+    index.find_one(key, &mut steps).is_some()
 }
 
 fn first_text_over<'a, L: Ledger>(index: &'a Index, key: &[u8], blank: Blank) -> Option<&'a [u8]>
@@ -55,18 +92,6 @@ fn first_text_over<'a, L: Ledger>(index: &'a Index, key: &[u8], blank: Blank) ->
     let mut steps = Steps::<L>::new(blank);
     let place = index.find_one(key, &mut steps)?;
     Some(index.text(&place))
-}
-
-/// Finds all values of the key, in their order.
-///
-/// # Errors
-///
-/// Out of memory.
-pub fn values(alloc: Global, index: &Index, key: &[u8]) -> Result<Values, AllocError>
-    ensures { IfOk result
-        (λ found. found_values found ≡ values_of (contents index.now.nodes) key.now) }
-{
-    values_over::<Brand>(alloc, index, key, Blank::new(1))
 }
 
 fn values_over<L: Ledger>(
@@ -85,19 +110,6 @@ fn values_over<L: Ledger>(
     index.find(alloc, key, &mut steps)
 }
 
-/// Finds the values of every key that as a pattern matches the text: by rising priority, then by
-/// the bytes of the key, then by place.
-///
-/// # Errors
-///
-/// Out of memory, as by [`Index::wild`].
-pub fn matching(alloc: Global, index: &Index, text: &[u8]) -> Result<Values, AllocError>
-    ensures { IfOk result
-        (λ found. found_values found ≡ wild_values (contents index.now.nodes) text.now) }
-{
-    matching_over::<Brand>(alloc, index, text, Blank::new(1))
-}
-
 fn matching_over<L: Ledger>(
     alloc: Global,
     index: &Index,
@@ -112,18 +124,6 @@ fn matching_over<L: Ledger>(
 {
     let mut steps = Steps::<L>::new(blank);
     index.wild(alloc, text, &mut steps)
-}
-
-/// Lists all keys, each with its values, by the bytes of the keys and then by place.
-///
-/// # Errors
-///
-/// Out of memory, as by [`Index::all`].
-pub fn all_pairs(alloc: Global, index: &Index) -> Result<Pairs, AllocError>
-    ensures { IfOk result
-        (λ pairs. IsListing (values_of (contents index.now.nodes)) (shown_pairs pairs)) }
-{
-    all_pairs_over::<Brand>(alloc, index, Blank::new(1))
 }
 
 fn all_pairs_over<L: Ledger>(

@@ -22,6 +22,28 @@ pub(crate) struct ChildLink {
     offset: u32,
 }
 
+/// Returns the file of these nodes. `capacity` is the number of bytes to reserve for it.
+pub(crate) fn write(
+    alloc: Global,
+    nodes: &[TreeNode],
+    capacity: usize,
+) -> Result<Vec<u8>, AllocError>
+    requires { length (with_parts (map part_of nodes.now) headed).bytes ≤ file_limit }
+    ensures { IfOk result (λ v. v.items ≡ rooted (with_parts (map part_of nodes.now) headed)) }
+{
+    let mut out = Vec::with_capacity(alloc, capacity)?;
+    push_number(&mut out, MAGIC)?;
+    push_number(&mut out, VERSION)?;
+    push_number(&mut out, 0)?;
+    let mut links = Vec::new(alloc);
+    for node in nodes {
+        write_node(&mut out, &mut links, node)?;
+    }
+    let root = offset_of(&links, 0);
+    put_root(&mut out, root);
+    Ok(out)
+}
+
 /// Puts a number at the end.
 fn push_number(out: &mut Vec<u8>, n: u32) -> Result<(), AllocError>
     ensures { OnOk result (out.new.items ≡ out.old.items ++ number n) }
@@ -29,114 +51,6 @@ fn push_number(out: &mut Vec<u8>, n: u32) -> Result<(), AllocError>
     let mut bytes = [0; 4];
     BigEndian::write_u32(&mut bytes, n);
     out.extend_from_slice(&bytes)
-}
-
-/// Puts a prefix at the end, with its NUL.
-fn push_prefix(out: &mut Vec<u8>, prefix: &[u8]) -> Result<(), AllocError>
-    ensures { OnOk result (out.new.items ≡ out.old.items ++ prefix_field prefix.now) }
-{
-    if prefix.is_empty() {
-        return Ok(());
-    }
-    out.extend_from_slice(prefix)?;
-    out.push(0)?;
-    Ok(())
-}
-
-/// Returns the offset for a byte, and 0 if no child has it.
-fn offset_of(links: &[ChildLink], byte: usize) -> u32
-    ensures { result ≡ offset (links_of links.now) byte }
-{
-    for link in links {
-        if usize::from(link.byte) == byte {
-            return link.offset;
-        }
-    }
-    0
-}
-
-/// Returns the offset for each byte, with 0 if no child has it.
-fn offset_table(links: &[ChildLink]) -> [u32; 256]
-    ensures { (byte : ℕ) → byte < 256 → slice_index result byte ≡ offset (links_of links.now) byte }
-{
-    let mut table = [0; 256];
-    for n in (0..links.len()).rev() {
-        table[usize::from(links[n].byte)] = links[n].offset;
-    }
-    table
-}
-
-/// Puts the offsets for this many bytes at the end.
-fn push_offsets(
-    out: &mut Vec<u8>,
-    links: &[ChildLink],
-    first: usize,
-    count: usize,
-) -> Result<(), AllocError>
-    requires { first + count ≤ 256 }
-    ensures { OnOk result
-        (out.new.items ≡ out.old.items ++ offsets_bytes (links_of links.now) first count) }
-{
-    let table = offset_table(links);
-    for n in 0..count {
-        push_number(out, table[first + n])?;
-    }
-    Ok(())
-}
-
-/// Puts the range of children at the end, with their offsets.
-fn push_children(out: &mut Vec<u8>, links: &[ChildLink]) -> Result<(), AllocError>
-    ensures { OnOk result (out.new.items ≡ out.old.items ++ children_field (links_of links.now)) }
-{
-    let (Some(first), Some(last)) = (links.first(), links.last()) else {
-        return Ok(());
-    };
-    out.push(first.byte)?;
-    out.push(last.byte)?;
-    let start = usize::from(first.byte);
-    let count = usize::from(last.byte).saturating_sub(start) + 1;
-    push_offsets(out, links, start, count)
-}
-
-/// Puts a value at the end.
-fn push_value(out: &mut Vec<u8>, value: &StoredValue) -> Result<(), AllocError>
-    ensures { OnOk result (out.new.items ≡ out.old.items ++ value_bytes (value_of value.now)) }
-{
-    push_number(out, value.priority)?;
-    out.extend_from_slice(value.text.as_bytes())?;
-    out.push(0)?;
-    Ok(())
-}
-
-/// Puts values at the end, with their count.
-fn push_values(out: &mut Vec<u8>, values: &[StoredValue]) -> Result<(), AllocError>
-    requires { length values.now < 2 ^ 32 }
-    ensures { OnOk result
-        (out.new.items ≡ out.old.items ++ values_field (shown_values values.now)) }
-{
-    if values.is_empty() {
-        return Ok(());
-    }
-    push_number(out, values.len() as u32)?;
-    for value in values {
-        push_value(out, value)?;
-    }
-    Ok(())
-}
-
-/// Returns the offset of the node at a place, by whether it has a prefix, children and values.
-fn link_to(place: u32, has_prefix: bool, has_children: bool, has_values: bool) -> u32
-    requires { place < 2 ^ 28 }
-    ensures { result
-        ≡ bit has_prefix * HAS_PREFIX
-        + bit has_values * HAS_VALUES
-        + bit has_children * HAS_CHILDREN
-        + place }
-{
-    let prefix = if has_prefix { HAS_PREFIX } else { 0 };
-    let values = if has_values { HAS_VALUES } else { 0 };
-    let children = if has_children { HAS_CHILDREN } else { 0 };
-    prefix + values + children + place
 }
 
 /// Writes a node. It takes the links to its children from the end of the waiting links, and puts
@@ -172,6 +86,18 @@ fn write_node(
     Ok(())
 }
 
+/// Returns the offset for a byte, and 0 if no child has it.
+fn offset_of(links: &[ChildLink], byte: usize) -> u32
+    ensures { result ≡ offset (links_of links.now) byte }
+{
+    for link in links {
+        if usize::from(link.byte) == byte {
+            return link.offset;
+        }
+    }
+    0
+}
+
 /// Writes the offset of the root to its place.
 fn put_root(out: &mut [u8], root: u32)
     requires { FIRST_PLACE ≤ length out.old }
@@ -180,24 +106,98 @@ fn put_root(out: &mut [u8], root: u32)
     BigEndian::write_u32(&mut out[8..], root);
 }
 
-/// Returns the file of these nodes. `capacity` is the number of bytes to reserve for it.
-pub(crate) fn write(
-    alloc: Global,
-    nodes: &[TreeNode],
-    capacity: usize,
-) -> Result<Vec<u8>, AllocError>
-    requires { length (with_parts (map part_of nodes.now) headed).bytes ≤ file_limit }
-    ensures { IfOk result (λ v. v.items ≡ rooted (with_parts (map part_of nodes.now) headed)) }
+/// Returns the offset of the node at a place, by whether it has a prefix, children and values.
+fn link_to(place: u32, has_prefix: bool, has_children: bool, has_values: bool) -> u32
+    requires { place < 2 ^ 28 }
+    ensures { result
+        ≡ bit has_prefix * HAS_PREFIX
+        + bit has_values * HAS_VALUES
+        + bit has_children * HAS_CHILDREN
+        + place }
 {
-    let mut out = Vec::with_capacity(alloc, capacity)?;
-    push_number(&mut out, MAGIC)?;
-    push_number(&mut out, VERSION)?;
-    push_number(&mut out, 0)?;
-    let mut links = Vec::new(alloc);
-    for node in nodes {
-        write_node(&mut out, &mut links, node)?;
+    let prefix = if has_prefix { HAS_PREFIX } else { 0 };
+    let values = if has_values { HAS_VALUES } else { 0 };
+    let children = if has_children { HAS_CHILDREN } else { 0 };
+    prefix + values + children + place
+}
+
+/// Puts a prefix at the end, with its NUL.
+fn push_prefix(out: &mut Vec<u8>, prefix: &[u8]) -> Result<(), AllocError>
+    ensures { OnOk result (out.new.items ≡ out.old.items ++ prefix_field prefix.now) }
+{
+    if prefix.is_empty() {
+        return Ok(());
     }
-    let root = offset_of(&links, 0);
-    put_root(&mut out, root);
-    Ok(out)
+    out.extend_from_slice(prefix)?;
+    out.push(0)?;
+    Ok(())
+}
+
+/// Puts the range of children at the end, with their offsets.
+fn push_children(out: &mut Vec<u8>, links: &[ChildLink]) -> Result<(), AllocError>
+    ensures { OnOk result (out.new.items ≡ out.old.items ++ children_field (links_of links.now)) }
+{
+    let (Some(first), Some(last)) = (links.first(), links.last()) else {
+        return Ok(());
+    };
+    out.push(first.byte)?;
+    out.push(last.byte)?;
+    let start = usize::from(first.byte);
+    let count = usize::from(last.byte).saturating_sub(start) + 1;
+    push_offsets(out, links, start, count)
+}
+
+/// Puts values at the end, with their count.
+fn push_values(out: &mut Vec<u8>, values: &[StoredValue]) -> Result<(), AllocError>
+    requires { length values.now < 2 ^ 32 }
+    ensures { OnOk result
+        (out.new.items ≡ out.old.items ++ values_field (shown_values values.now)) }
+{
+    if values.is_empty() {
+        return Ok(());
+    }
+    push_number(out, values.len() as u32)?;
+    for value in values {
+        push_value(out, value)?;
+    }
+    Ok(())
+}
+
+/// Puts the offsets for this many bytes at the end.
+fn push_offsets(
+    out: &mut Vec<u8>,
+    links: &[ChildLink],
+    first: usize,
+    count: usize,
+) -> Result<(), AllocError>
+    requires { first + count ≤ 256 }
+    ensures { OnOk result
+        (out.new.items ≡ out.old.items ++ offsets_bytes (links_of links.now) first count) }
+{
+    let table = offset_table(links);
+    for n in 0..count {
+        push_number(out, table[first + n])?;
+    }
+    Ok(())
+}
+
+/// Puts a value at the end.
+fn push_value(out: &mut Vec<u8>, value: &StoredValue) -> Result<(), AllocError>
+    ensures { OnOk result (out.new.items ≡ out.old.items ++ value_bytes (value_of value.now)) }
+{
+    push_number(out, value.priority)?;
+    out.extend_from_slice(value.text.as_bytes())?;
+    out.push(0)?;
+    Ok(())
+}
+
+/// Returns the offset for each byte, with 0 if no child has it.
+fn offset_table(links: &[ChildLink]) -> [u32; 256]
+    ensures { (byte : ℕ) → byte < 256 → slice_index result byte ≡ offset (links_of links.now) byte }
+{
+    let mut table = [0; 256];
+    for n in (0..links.len()).rev() {
+        table[usize::from(links[n].byte)] = links[n].offset;
+    }
+    table
 }

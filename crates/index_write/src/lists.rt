@@ -8,17 +8,26 @@ use std::alloc::{AllocError, Global};
 use std::collections::BTreeMap;
 use std::collections::btree_map::Entry;
 
-/// Returns the place of a new value: after the last one whose priority isn't greater.
-fn place_for(list: &[StoredValue], priority: u32) -> usize
-    ensures within { result ≤ length list.now }
-    ensures place { (v : ℕ × List ℕ) → v.0 ≡ priority
-        → insert (shown_values list.now) result v ≡ place (shown_values list.now) v }
+/// Inserts a value into the list of its key.
+pub(crate) fn add_value(
+    alloc: Global,
+    lists: &mut BTreeMap<String, Vec<StoredValue>>,
+    key: String,
+    value: StoredValue,
+) -> Result<(), AllocError>
+    ensures ok { OnOk result
+        (entries_of lists.new.entries
+        ≡ with_one (entries_of lists.old.entries) (string_bytes key) (value_of value)) }
+    ensures err { OnErr result (entries_of lists.new.entries ≡ entries_of lists.old.entries) }
+    ensures ordered { AreOrdered lists.old.entries }
 {
-    let mut at = list.len();
-    while at > 0 && list[at - 1].priority > priority {
-        at -= 1;
+    match lists.entry(key)? {
+        Entry::Occupied(entry) => add_to(entry.into_mut(), value),
+        Entry::Vacant(entry) => {
+            Entry::Vacant(entry).or_try_insert_with(|| list_of(alloc, value))?;
+            Ok(())
+        }
     }
-    at
 }
 
 /// Inserts a value at its place.
@@ -41,24 +50,15 @@ fn list_of(alloc: Global, value: StoredValue) -> Result<Vec<StoredValue>, AllocE
     Ok(list)
 }
 
-/// Inserts a value into the list of its key.
-pub(crate) fn add_value(
-    alloc: Global,
-    lists: &mut BTreeMap<String, Vec<StoredValue>>,
-    key: String,
-    value: StoredValue,
-) -> Result<(), AllocError>
-    ensures ok { OnOk result
-        (entries_of lists.new.entries
-        ≡ with_one (entries_of lists.old.entries) (string_bytes key) (value_of value)) }
-    ensures err { OnErr result (entries_of lists.new.entries ≡ entries_of lists.old.entries) }
-    ensures ordered { AreOrdered lists.old.entries }
+/// Returns the place of a new value: after the last one whose priority isn't greater.
+fn place_for(list: &[StoredValue], priority: u32) -> usize
+    ensures within { result ≤ length list.now }
+    ensures place { (v : ℕ × List ℕ) → v.0 ≡ priority
+        → insert (shown_values list.now) result v ≡ place (shown_values list.now) v }
 {
-    match lists.entry(key)? {
-        Entry::Occupied(entry) => add_to(entry.into_mut(), value),
-        Entry::Vacant(entry) => {
-            Entry::Vacant(entry).or_try_insert_with(|| list_of(alloc, value))?;
-            Ok(())
-        }
+    let mut at = list.len();
+    while at > 0 && list[at - 1].priority > priority {
+        at -= 1;
     }
+    at
 }

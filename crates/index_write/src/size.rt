@@ -8,6 +8,26 @@ use crate::key_map::StoredValue;
 use crate::node::{Span, TreeNode};
 use index_format::FIRST_PLACE;
 
+/// Returns the size of the file of these nodes in bytes.
+pub(crate) fn file_size(nodes: &[TreeNode]) -> u64
+    ensures { result ≡ min (FIRST_PLACE + sum_by part_size (map part_of nodes.now)) (2 ^ 64 - 1) }
+{
+    let mut total = u64::from(FIRST_PLACE);
+    for node in nodes {
+        total = total.saturating_add(node_size(node));
+    }
+    total
+}
+
+/// Returns the size of a node in bytes.
+fn node_size(node: &TreeNode) -> u64
+    ensures { result ≡ min (part_size (part_of node.now)) (2 ^ 64 - 1) }
+{
+    prefix_size(node.prefix)
+        .saturating_add(span_size(&node.children))
+        .saturating_add(values_size(node.values))
+}
+
 /// Returns the size of a prefix with its NUL, in bytes.
 fn prefix_size(prefix: &[u8]) -> u64
     ensures { result ≡ min (prefix_size prefix.now) (2 ^ 64 - 1) }
@@ -42,26 +62,6 @@ fn values_size(values: &[StoredValue]) -> u64
         total = total
             .saturating_add(value.text.len() as u64)
             .saturating_add(5);
-    }
-    total
-}
-
-/// Returns the size of a node in bytes.
-fn node_size(node: &TreeNode) -> u64
-    ensures { result ≡ min (part_size (part_of node.now)) (2 ^ 64 - 1) }
-{
-    prefix_size(node.prefix)
-        .saturating_add(span_size(&node.children))
-        .saturating_add(values_size(node.values))
-}
-
-/// Returns the size of the file of these nodes in bytes.
-pub(crate) fn file_size(nodes: &[TreeNode]) -> u64
-    ensures { result ≡ min (FIRST_PLACE + sum_by part_size (map part_of nodes.now)) (2 ^ 64 - 1) }
-{
-    let mut total = u64::from(FIRST_PLACE);
-    for node in nodes {
-        total = total.saturating_add(node_size(node));
     }
     total
 }

@@ -14,12 +14,6 @@ pub fn is_graphic(text: &[u8]) -> bool
     !text.is_empty() && are_graphic(text)
 }
 
-fn are_graphic(text: &[u8]) -> bool
-    ensures { result ≡ list_all is_ascii_graphic text.now }
-{
-    text.iter().all(|b| b.is_ascii_graphic())
-}
-
 /// Returns the number that the text states in 1 to 16 hexadecimal digits of either case. The result
 /// is `None` exactly if the text isn't such a number. proc(5) has addresses in this form, in
 /// `kallsyms`.
@@ -31,6 +25,12 @@ pub fn hexadecimal(text: &[u8]) -> Option<u64>
         return None;
     }
     Some(digits_value(text))
+}
+
+fn are_graphic(text: &[u8]) -> bool
+    ensures { result ≡ list_all is_ascii_graphic text.now }
+{
+    text.iter().all(|b| b.is_ascii_graphic())
 }
 
 fn are_digits(text: &[u8]) -> bool

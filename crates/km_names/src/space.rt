@@ -24,44 +24,6 @@ pub fn split_word(text: &[u8]) -> (&[u8], &[u8])
     (&text[..end], trimmed(&text[end..]))
 }
 
-fn is_space(byte: u8) -> bool
-    ensures { result ≡ is_space byte }
-{
-    byte == b' ' || byte == b'\t' || byte == b'\r'
-}
-
-// Returns the number of bytes before the first white space.
-fn word_length(text: &[u8]) -> usize
-    ensures place { result ≡ position_or_len is_space text.now }
-    ensures within { result ≤ length text.now }
-{
-    let mut end = 0;
-    while end < text.len() && !is_space(text[end]) {
-        end += 1;
-    }
-    end
-}
-
-fn trimmed_start(text: &[u8]) -> &[u8]
-    ensures { result.now ≡ trimmed_start text.now }
-{
-    let mut start = 0;
-    while start < text.len() && is_space(text[start]) {
-        start += 1;
-    }
-    &text[start..]
-}
-
-fn trimmed_end(text: &[u8]) -> &[u8]
-    ensures { result.now ≡ trimmed_end text.now }
-{
-    let mut end = text.len();
-    while end > 0 && is_space(text[end - 1]) {
-        end -= 1;
-    }
-    &text[..end]
-}
-
 /// Returns the words of a text: its pieces between white space. modprobe.d(5), depmod.d(5).
 pub fn words(alloc: Global, text: &[u8]) -> Result<Texts, AllocError>
     ensures { IfOk result (λ words. words ≡ words_spec text.now) }
@@ -79,6 +41,38 @@ pub fn words(alloc: Global, text: &[u8]) -> Result<Texts, AllocError>
     }
 }
 
+fn trimmed_end(text: &[u8]) -> &[u8]
+    ensures { result.now ≡ trimmed_end text.now }
+{
+    let mut end = text.len();
+    while end > 0 && is_space(text[end - 1]) {
+        end -= 1;
+    }
+    &text[..end]
+}
+
+fn trimmed_start(text: &[u8]) -> &[u8]
+    ensures { result.now ≡ trimmed_start text.now }
+{
+    let mut start = 0;
+    while start < text.len() && is_space(text[start]) {
+        start += 1;
+    }
+    &text[start..]
+}
+
+// Returns the number of bytes before the first white space.
+fn word_length(text: &[u8]) -> usize
+    ensures place { result ≡ position_or_len is_space text.now }
+    ensures within { result ≤ length text.now }
+{
+    let mut end = 0;
+    while end < text.len() && !is_space(text[end]) {
+        end += 1;
+    }
+    end
+}
+
 // Puts a piece at the end, unless it is empty.
 fn push_nonempty(alloc: Global, words: &mut Texts, piece: &[u8]) -> Result<(), AllocError>
     ensures ok { OnOk result (words.new ≡ words.old ++ nonempty (piece.now ∷ [])) }
@@ -87,4 +81,10 @@ fn push_nonempty(alloc: Global, words: &mut Texts, piece: &[u8]) -> Result<(), A
         return Ok(());
     }
     words.push(Blob::from_slice(alloc, piece)?)
+}
+
+fn is_space(byte: u8) -> bool
+    ensures { result ≡ is_space byte }
+{
+    byte == b' ' || byte == b'\t' || byte == b'\r'
 }

@@ -19,29 +19,6 @@ use std::fs::{DirEntry, ReadDir};
 use std::io::ErrorKind;
 use std::{fs, io, rt};
 
-/// The kind of an entry of a folder, as a listing sees it.
-#[derive(Clone, Copy)]
-enum EntryKind {
-    /// A file that is listed if its name passes the test.
-    File,
-    /// A folder whose files are listed too.
-    Folder,
-    /// Neither: a link, a device and the like, or an entry that has gone since.
-    Other,
-}
-
-/// A walk through a folder and, if all files are listed, the folders below it.
-#[derive(Drop)]
-struct Walk {
-    listing: Listing,
-    /// The folders still to be read: each relative to the walk's, with a slash at its end.
-    pending: Vec<String>,
-    /// The files found, in no order.
-    found: Vec<Vec<u8>>,
-    /// The number of entries met.
-    met: usize,
-}
-
 /// Lists the folder: each name or path once, rising by bytes, if no more entries than the limit are
 /// met.
 pub(crate) fn list_folder<R: rt::Files + AllocGlobal + Clone + Drop, K>(
@@ -61,6 +38,19 @@ pub(crate) fn list_folder<R: rt::Files + AllocGlobal + Clone + Drop, K>(
     };
     let found = find(rt, alloc, listing, folder)?;
     rising(alloc, found)
+}
+
+/// Returns the paths in rising order, each once.
+fn rising<K>(alloc: Global, mut found: Vec<Vec<u8>>) -> Result<List<Bytes<K>>, FileAnswer>
+    ensures rising { IfOk result (λ names. IsStrictlySortedBy by_bytes names) }
+    ensures kept { (p : List ℕ → Bool) → All (λ path. p path.items ≡ true) found.items
+        → IfOk result (λ names. All (λ name. p name ≡ true) names) }
+    ensures limit { IfOk result (λ names. length names ≤ vec_len found) }
+    ensures memory { IfErr result (λ answer. answer ≡ Memory) }
+{
+    found.sort()?;
+    found.dedup();
+    Ok(as_list(alloc, found)?)
 }
 
 /// Returns what is found below the folder, in no order.
@@ -87,6 +77,29 @@ fn find<R: rt::Files + AllocGlobal + Clone + Drop>(
     }
     walk.read_pending(rt, alloc, folder)?;
     Ok(walk.found)
+}
+
+/// Converts the paths to a list.
+fn as_list<K>(alloc: Global, paths: Vec<Vec<u8>>) -> Result<List<Bytes<K>>, AllocError>
+    ensures { IfOk result (λ list. list ≡ map (λ path. path.items) paths.items) }
+{
+    let mut list = List::new(alloc);
+    for path in paths {
+        list.push(Bytes::from_vec(path))?;
+    }
+    Ok(list)
+}
+
+/// A walk through a folder and, if all files are listed, the folders below it.
+#[derive(Drop)]
+struct Walk {
+    listing: Listing,
+    /// The folders still to be read: each relative to the walk's, with a slash at its end.
+    pending: Vec<String>,
+    /// The files found, in no order.
+    found: Vec<Vec<u8>>,
+    /// The number of entries met.
+    met: usize,
 }
 
 impl Walk {
@@ -189,6 +202,17 @@ impl Walk {
     }
 }
 
+/// Returns the answer to an error of the system below the folder that is listed, when the folder
+/// itself exists.
+fn answer_below(error: io::Error) -> FileAnswer
+    ensures { IsPast list_limit result }
+{
+    match error.kind() {
+        ErrorKind::OutOfMemory => FileAnswer::Memory,
+        _ => FileAnswer::Failed,
+    }
+}
+
 /// Returns the kind of the entry. A listing of configuration files follows links; a listing of all
 /// files doesn't.
 fn kind_of_entry<R: rt::Files>(
@@ -214,37 +238,13 @@ fn kind_of_entry<R: rt::Files>(
     }
 }
 
-/// Returns the answer to an error of the system below the folder that is listed, when the folder
-/// itself exists.
-fn answer_below(error: io::Error) -> FileAnswer
-    ensures { IsPast list_limit result }
-{
-    match error.kind() {
-        ErrorKind::OutOfMemory => FileAnswer::Memory,
-        _ => FileAnswer::Failed,
-    }
-}
-
-/// Returns the paths in rising order, each once.
-fn rising<K>(alloc: Global, mut found: Vec<Vec<u8>>) -> Result<List<Bytes<K>>, FileAnswer>
-    ensures rising { IfOk result (λ names. IsStrictlySortedBy by_bytes names) }
-    ensures kept { (p : List ℕ → Bool) → All (λ path. p path.items ≡ true) found.items
-        → IfOk result (λ names. All (λ name. p name ≡ true) names) }
-    ensures limit { IfOk result (λ names. length names ≤ vec_len found) }
-    ensures memory { IfErr result (λ answer. answer ≡ Memory) }
-{
-    found.sort()?;
-    found.dedup();
-    Ok(as_list(alloc, found)?)
-}
-
-/// Converts the paths to a list.
-fn as_list<K>(alloc: Global, paths: Vec<Vec<u8>>) -> Result<List<Bytes<K>>, AllocError>
-    ensures { IfOk result (λ list. list ≡ map (λ path. path.items) paths.items) }
-{
-    let mut list = List::new(alloc);
-    for path in paths {
-        list.push(Bytes::from_vec(path))?;
-    }
-    Ok(list)
+/// The kind of an entry of a folder, as a listing sees it.
+#[derive(Clone, Copy)]
+enum EntryKind {
+    /// A file that is listed if its name passes the test.
+    File,
+    /// A folder whose files are listed too.
+    Folder,
+    /// Neither: a link, a device and the like, or an entry that has gone since.
+    Other,
 }

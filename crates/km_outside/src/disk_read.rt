@@ -36,6 +36,19 @@ pub(crate) fn read_file<R: rt::Files>(
     }
 }
 
+/// Returns the answer to an error of the system.
+pub(crate) fn answer_to(kind: ErrorKind) -> FileAnswer
+    ensures { result ≡ answer_of kind }
+{
+    match kind {
+        ErrorKind::NotFound | ErrorKind::NotADirectory | ErrorKind::IsADirectory => {
+            FileAnswer::Absent
+        }
+        ErrorKind::OutOfMemory => FileAnswer::Memory,
+        _ => FileAnswer::Failed,
+    }
+}
+
 /// Returns the length of a regular file, and 0 for everything else.
 fn told_length<F: OpenFile>(file: &F) -> u64 {
     match file.metadata() {
@@ -54,17 +67,4 @@ fn check_length(bytes: &[u8]) -> Result<(), FileAnswer>
         return Err(FileAnswer::TooLarge { length });
     }
     Ok(())
-}
-
-/// Returns the answer to an error of the system.
-pub(crate) fn answer_to(kind: ErrorKind) -> FileAnswer
-    ensures { result ≡ answer_of kind }
-{
-    match kind {
-        ErrorKind::NotFound | ErrorKind::NotADirectory | ErrorKind::IsADirectory => {
-            FileAnswer::Absent
-        }
-        ErrorKind::OutOfMemory => FileAnswer::Memory,
-        _ => FileAnswer::Failed,
-    }
 }

@@ -16,13 +16,6 @@ const TRIES: u32 = 100;
 /// The permissions of a new file, before the process's own mask.
 const MODE: u32 = 0o644;
 
-/// A file beside the one that it is to replace.
-#[derive(Drop)]
-struct NewFile<F: Drop> {
-    file: F,
-    path: String,
-}
-
 /// Replaces the file at the path by one of these bytes, whole or not at all.
 pub(crate) fn replace_file<R: rt::Files>(
     rt: &R,
@@ -48,6 +41,13 @@ pub(crate) fn replace_file<R: rt::Files>(
     Ok(())
 }
 
+/// A file beside the one that it is to replace.
+#[derive(Drop)]
+struct NewFile<F: Drop> {
+    file: F,
+    path: String,
+}
+
 /// Makes a new file beside the one at the path.
 fn create_beside<R: rt::Files>(
     rt: &R,
@@ -65,15 +65,6 @@ fn create_beside<R: rt::Files>(
     Err(ReplaceAnswer::Failed)
 }
 
-/// Makes a file if none exists.
-fn create_new<R: rt::Files>(rt: &R, path: &str) -> io::Result<R::File> {
-    let mut options = OpenOptions::new();
-    options.write(true);
-    options.create_new(true);
-    options.mode(MODE);
-    options.open(rt, path)
-}
-
 /// Writes the bytes to the file, and flushes it to the disk.
 fn fill<F: io::Write + OpenFile>(file: &mut F, bytes: &[u8]) -> io::Result<()> {
     write_whole(file, bytes).map_err(|_| io::Error::from(ErrorKind::Other))?;
@@ -86,4 +77,13 @@ fn answer_to(error: &io::Error) -> ReplaceAnswer {
         ErrorKind::OutOfMemory => ReplaceAnswer::Memory,
         _ => ReplaceAnswer::Failed,
     }
+}
+
+/// Makes a file if none exists.
+fn create_new<R: rt::Files>(rt: &R, path: &str) -> io::Result<R::File> {
+    let mut options = OpenOptions::new();
+    options.write(true);
+    options.create_new(true);
+    options.mode(MODE);
+    options.open(rt, path)
 }

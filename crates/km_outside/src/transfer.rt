@@ -45,6 +45,38 @@ pub(crate) fn read_limited<R: Read>(
     Ok(filled)
 }
 
+/// Writes all of the bytes. Each turn takes at least one byte, or the write fails; then a first
+/// part of the bytes has been written.
+pub(crate) fn write_whole<W: Write>(writer: &mut W, bytes: &[u8]) -> Result<(), OutFailed>
+    ensures { MatchResult result
+        (λ _. Appends (W.contents writer.old) (W.contents writer.new) bytes.now)
+        (λ _. (n : ℕ) × (n ≤ length bytes.now)
+        × Appends (W.contents writer.old) (W.contents writer.new) (take n bytes.now)) }
+{
+    let mut written = 0;
+    while written < bytes.len() {
+        match write_some(writer, &bytes[written..]) {
+            Ok(0) | Err(_) => return Err(OutFailed),
+            Ok(count) => written += count,
+        }
+    }
+    Ok(())
+}
+
+/// Extends the buffer with zeros to this length, unless it is that long already. After a refusal it
+/// is as before.
+fn lengthen(buffer: &mut Vec<u8>, length: usize) -> Result<(), AllocError>
+    requires { length ≤ file_limit + 1 }
+    ensures room { OnOk result (length ≤ vec_len buffer.new) }
+    ensures limit { vec_len buffer.old ≤ file_limit + 1 → vec_len buffer.new ≤ file_limit + 1 }
+    ensures front { take (vec_len buffer.old) buffer.new.items ≡ buffer.old.items }
+{
+    if length <= buffer.len() {
+        return Ok(());
+    }
+    buffer.resize(length, 0)
+}
+
 /// Runs one turn: makes room after the filled part, and reads some bytes into it. No bytes means
 /// the end.
 fn read_more<R: Read>(reader: &mut R, buffer: &mut Vec<u8>, filled: usize) -> io::Result<usize>
@@ -65,18 +97,18 @@ fn read_more<R: Read>(reader: &mut R, buffer: &mut Vec<u8>, filled: usize) -> io
     read_at(reader, buffer.as_mut_slice(), filled)
 }
 
-/// Extends the buffer with zeros to this length, unless it is that long already. After a refusal it
-/// is as before.
-fn lengthen(buffer: &mut Vec<u8>, length: usize) -> Result<(), AllocError>
-    requires { length ≤ file_limit + 1 }
-    ensures room { OnOk result (length ≤ vec_len buffer.new) }
-    ensures limit { vec_len buffer.old ≤ file_limit + 1 → vec_len buffer.new ≤ file_limit + 1 }
-    ensures front { take (vec_len buffer.old) buffer.new.items ≡ buffer.old.items }
+/// Writes once, and again if a signal interrupted it.
+fn write_some<W: Write>(writer: &mut W, bytes: &[u8]) -> io::Result<usize>
+    ensures bound { WritesAtMost result bytes.now }
+    ensures bytes { WriteAppends (W.contents writer.old) (W.contents writer.new) result bytes.now }
 {
-    if length <= buffer.len() {
-        return Ok(());
+    for _ in 0..RETRIES {
+        match writer.write(bytes) {
+            Err(error) if error.kind() == ErrorKind::Interrupted => {}
+            answer => return answer,
+        }
     }
-    buffer.resize(length, 0)
+    writer.write(bytes)
 }
 
 /// Reads some bytes into the buffer after its filled part. No bytes means the end.
@@ -104,36 +136,4 @@ fn read_some<R: Read>(reader: &mut R, room: &mut [u8]) -> io::Result<usize>
         }
     }
     reader.read(room)
-}
-
-/// Writes all of the bytes. Each turn takes at least one byte, or the write fails; then a first
-/// part of the bytes has been written.
-pub(crate) fn write_whole<W: Write>(writer: &mut W, bytes: &[u8]) -> Result<(), OutFailed>
-    ensures { MatchResult result
-        (λ _. Appends (W.contents writer.old) (W.contents writer.new) bytes.now)
-        (λ _. (n : ℕ) × (n ≤ length bytes.now)
-        × Appends (W.contents writer.old) (W.contents writer.new) (take n bytes.now)) }
-{
-    let mut written = 0;
-    while written < bytes.len() {
-        match write_some(writer, &bytes[written..]) {
-            Ok(0) | Err(_) => return Err(OutFailed),
-            Ok(count) => written += count,
-        }
-    }
-    Ok(())
-}
-
-/// Writes once, and again if a signal interrupted it.
-fn write_some<W: Write>(writer: &mut W, bytes: &[u8]) -> io::Result<usize>
-    ensures bound { WritesAtMost result bytes.now }
-    ensures bytes { WriteAppends (W.contents writer.old) (W.contents writer.new) result bytes.now }
-{
-    for _ in 0..RETRIES {
-        match writer.write(bytes) {
-            Err(error) if error.kind() == ErrorKind::Interrupted => {}
-            answer => return answer,
-        }
-    }
-    writer.write(bytes)
 }

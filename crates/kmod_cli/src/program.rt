@@ -65,32 +65,6 @@ pub fn run<F: Files, O: Out, E: Out>(
     }
 }
 
-/// Does what the words after a command's name ask for.
-fn command<F: Files, O: Out, E: Out>(
-    alloc: Global,
-    named: Option<Command>,
-    words: &[Word],
-    files: &mut F,
-    out: &mut O,
-    err: &mut E,
-) -> u8
-    ensures { Carries (course_named named words.now)
-        (world (F.seen files.old) (O.seen out.old) (E.seen err.old))
-        (world (F.seen files.new) (O.seen out.new) (E.seen err.new)) result }
-{
-    match named {
-        Some(command) => match command {
-            Command::Depmod => depmod(alloc, words, files, out, err),
-            Command::Modinfo => modinfo(alloc, words, files, out, err),
-            Command::Modprobe => modprobe(alloc, words, files, out, err),
-            Command::Trial => trial(alloc, words, out, err),
-            Command::StaticNodes => static_nodes(alloc, words, files, out, err),
-            Command::BuiltinAlias => builtin_alias(alloc, words, files, out, err),
-        },
-        None => conclude(alloc, Err(Stop::from(End::NotUnderstood)), err),
-    }
-}
-
 /// Does what `depmod` does with these words after its name, and answers the exit status, as [`run`]
 /// does: indexes the modules of a kernel.
 ///
@@ -119,22 +93,6 @@ pub fn depmod<F: Files, O: Out, E: Out>(
         (world (F.seen files.new) (O.seen out.new) (E.seen err.new)) result }
 {
     let outcome = command_depmod::depmod(alloc, words, files, out, err);
-    conclude(alloc, outcome, err)
-}
-
-/// Does what `modinfo` does with these words after its name. modinfo(8).
-fn modinfo<F: Reads, O: Out, E: Out>(
-    alloc: Global,
-    words: &[Word],
-    files: &mut F,
-    out: &mut O,
-    err: &mut E,
-) -> u8
-    ensures { Carries (modinfo_course words.now)
-        (world (F.seen files.old) (O.seen out.old) (E.seen err.old))
-        (world (F.seen files.new) (O.seen out.new) (E.seen err.new)) result }
-{
-    let outcome = command_modinfo::modinfo(alloc, words, files, out);
     conclude(alloc, outcome, err)
 }
 
@@ -174,6 +132,48 @@ pub fn modprobe<F: Writes, O: Out, E: Out>(
         (world (F.seen files.new) (O.seen out.new) (E.seen err.new)) result }
 {
     let outcome = command_modprobe::modprobe(alloc, words, files, out);
+    conclude(alloc, outcome, err)
+}
+
+/// Does what the words after a command's name ask for.
+fn command<F: Files, O: Out, E: Out>(
+    alloc: Global,
+    named: Option<Command>,
+    words: &[Word],
+    files: &mut F,
+    out: &mut O,
+    err: &mut E,
+) -> u8
+    ensures { Carries (course_named named words.now)
+        (world (F.seen files.old) (O.seen out.old) (E.seen err.old))
+        (world (F.seen files.new) (O.seen out.new) (E.seen err.new)) result }
+{
+    match named {
+        Some(command) => match command {
+            Command::Depmod => depmod(alloc, words, files, out, err),
+            Command::Modinfo => modinfo(alloc, words, files, out, err),
+            Command::Modprobe => modprobe(alloc, words, files, out, err),
+            Command::Trial => trial(alloc, words, out, err),
+            Command::StaticNodes => static_nodes(alloc, words, files, out, err),
+            Command::BuiltinAlias => builtin_alias(alloc, words, files, out, err),
+        },
+        None => conclude(alloc, Err(Stop::from(End::NotUnderstood)), err),
+    }
+}
+
+/// Does what `modinfo` does with these words after its name. modinfo(8).
+fn modinfo<F: Reads, O: Out, E: Out>(
+    alloc: Global,
+    words: &[Word],
+    files: &mut F,
+    out: &mut O,
+    err: &mut E,
+) -> u8
+    ensures { Carries (modinfo_course words.now)
+        (world (F.seen files.old) (O.seen out.old) (E.seen err.old))
+        (world (F.seen files.new) (O.seen out.new) (E.seen err.new)) result }
+{
+    let outcome = command_modinfo::modinfo(alloc, words, files, out);
     conclude(alloc, outcome, err)
 }
 

@@ -60,15 +60,6 @@ impl Argument {
     }
 }
 
-/// Returns an argument with a value that isn't empty.
-fn valued<'a>(alloc: Global, name: &'a str) -> Arg<'a>
-    ensures { (result.global ≡ false) × (rule_of result ≡ with_value name.entry.now) }
-{
-    Arg::new(alloc, name)
-        .action(ArgAction::Set)
-        .value_parser(ValueParser::NonEmptyString)
-}
-
 /// Returns the command of this name with only these arguments.
 pub(crate) fn command<'a>(
     alloc: Global,
@@ -85,4 +76,13 @@ pub(crate) fn command<'a>(
         command = command.arg(argument.arg(alloc))?;
     }
     Ok(command)
+}
+
+/// Returns an argument with a value that isn't empty.
+fn valued<'a>(alloc: Global, name: &'a str) -> Arg<'a>
+    ensures { (result.global ≡ false) × (rule_of result ≡ with_value name.entry.now) }
+{
+    Arg::new(alloc, name)
+        .action(ArgAction::Set)
+        .value_parser(ValueParser::NonEmptyString)
 }

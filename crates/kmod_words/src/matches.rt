@@ -47,16 +47,6 @@ pub(crate) fn is_given(matches: &ArgMatches<'_>, name: &str) -> bool
     is_from_words(matches.value_source(name))
 }
 
-/// Returns whether a value comes from the words, and isn't a default.
-fn is_from_words(source: Option<ValueSource>) -> bool
-    ensures { result ≡ is_from_words source }
-{
-    match source {
-        Some(ValueSource::CommandLine) => true,
-        _ => false,
-    }
-}
-
 /// Returns the value of an option, or the one word of a name.
 pub(crate) fn value_of<'a>(matches: &ArgMatches<'a>, name: &str) -> Option<&'a str>
     ensures { option_map (λ value. value.now) result
@@ -110,6 +100,23 @@ pub(crate) fn words_of(
     }
 }
 
+/// Returns whether a text may be a kernel's version.
+pub(crate) fn is_version(text: &str) -> bool
+    ensures { result ≡ is_version text.now }
+{
+    !has_slash(text.as_bytes())
+}
+
+/// Returns whether a value comes from the words, and isn't a default.
+fn is_from_words(source: Option<ValueSource>) -> bool
+    ensures { result ≡ is_from_words source }
+{
+    match source {
+        Some(ValueSource::CommandLine) => true,
+        _ => false,
+    }
+}
+
 fn names_of(alloc: Global, words: &[&str]) -> Result<Names, AllocError>
     ensures { IfOk result (λ names. names ≡ map (λ word. word.now) words.now) }
 {
@@ -118,13 +125,6 @@ fn names_of(alloc: Global, words: &[&str]) -> Result<Names, AllocError>
         names.push(Name::from_slice(alloc, word.as_bytes())?)?;
     }
     Ok(names)
-}
-
-/// Returns whether a text may be a kernel's version.
-pub(crate) fn is_version(text: &str) -> bool
-    ensures { result ≡ is_version text.now }
-{
-    !has_slash(text.as_bytes())
 }
 
 fn has_slash(text: &[u8]) -> bool

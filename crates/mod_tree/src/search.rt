@@ -34,31 +34,6 @@ pub fn parse_search(alloc: Global, files: &ConfFiles) -> Result<Search, ConfFaul
     Ok(words_of_lines(alloc, &lines)?)
 }
 
-/// Returns the words of all lines, in order, or the default list if there is no line.
-fn words_of_lines(alloc: Global, lines: &Items<SearchLine>) -> Result<Search, AllocError>
-    ensures { IfOk result (λ search. search ≡ words_of_lines lines.now) }
-{
-    let mut search = Search::new(alloc);
-    if lines.is_empty() {
-        search.push(Name::from_slice(alloc, b"updates")?)?;
-        search.push(Name::from_slice(alloc, b"built-in")?)?;
-    }
-    for line in lines.as_slice() {
-        push_words(alloc, &mut search, line.words.as_slice())?;
-    }
-    Ok(search)
-}
-
-/// Puts the words of a line at the end.
-fn push_words(alloc: Global, search: &mut Search, words: &[Blob]) -> Result<(), AllocError>
-    ensures { OnOk result (search.new ≡ search.old ++ words.now) }
-{
-    for word in words {
-        search.push(Name::from_slice(alloc, word.as_bytes())?)?;
-    }
-    Ok(())
-}
-
 /// A line `search WORDS` of depmod.d(5). Contracts see it as its words, one or more.
 #[derive(Drop)]
 pub(crate) struct SearchLine {
@@ -89,4 +64,29 @@ impl Statement for SearchLine {
         }
         Ok(Some(SearchLine { words }))
     }
+}
+
+/// Returns the words of all lines, in order, or the default list if there is no line.
+fn words_of_lines(alloc: Global, lines: &Items<SearchLine>) -> Result<Search, AllocError>
+    ensures { IfOk result (λ search. search ≡ words_of_lines lines.now) }
+{
+    let mut search = Search::new(alloc);
+    if lines.is_empty() {
+        search.push(Name::from_slice(alloc, b"updates")?)?;
+        search.push(Name::from_slice(alloc, b"built-in")?)?;
+    }
+    for line in lines.as_slice() {
+        push_words(alloc, &mut search, line.words.as_slice())?;
+    }
+    Ok(search)
+}
+
+/// Puts the words of a line at the end.
+fn push_words(alloc: Global, search: &mut Search, words: &[Blob]) -> Result<(), AllocError>
+    ensures { OnOk result (search.new ≡ search.old ++ words.now) }
+{
+    for word in words {
+        search.push(Name::from_slice(alloc, word.as_bytes())?)?;
+    }
+    Ok(())
 }

@@ -11,6 +11,9 @@ use km_names::{PathText, Paths};
 use std::alloc::{AllocError, AllocFailed, Global};
 use std::cmp::Ordering;
 
+/// The greatest number of modules in a tree.
+const MODULE_LIMIT: usize = 10_000;
+
 /// The paths of a tree's modules, relative to the kernel's folder, in the order of the tree.
 pub type Tree = Paths;
 
@@ -44,9 +47,6 @@ impl<T: Drop> From<AllocFailed<T>> for TreeFault {
         TreeFault::Memory
     }
 }
-
-/// The greatest number of modules in a tree.
-const MODULE_LIMIT: usize = 10_000;
 
 /// Chooses the tree of the listed paths. Each module name has the path that the search list ranks
 /// first, with ties broken by bytes. First come the paths that modules.order lists, by their first
@@ -82,6 +82,13 @@ pub fn choose(
     Ok(tree_in_order(alloc, chosen.as_slice(), order_file)?)
 }
 
+/// Returns whether a path is of a module: it ends in `.ko`, or as compressed modules do.
+pub(crate) fn is_module_path(path: &[u8]) -> bool
+    ensures { result ≡ is_module_path path.now }
+{
+    path.ends_with(b".ko") || has_compressed_end(path)
+}
+
 /// Returns the paths of modules among these paths.
 fn module_paths(alloc: Global, paths: &Paths) -> Result<Vec<&PathText>, AllocError>
     ensures { IfOk result (λ modules. referents modules.items ≡ filter is_module_path paths.now) }
@@ -93,19 +100,6 @@ fn module_paths(alloc: Global, paths: &Paths) -> Result<Vec<&PathText>, AllocErr
         }
     }
     Ok(modules)
-}
-
-/// Returns whether a path is of a module: it ends in `.ko`, or as compressed modules do.
-pub(crate) fn is_module_path(path: &[u8]) -> bool
-    ensures { result ≡ is_module_path path.now }
-{
-    path.ends_with(b".ko") || has_compressed_end(path)
-}
-
-fn has_compressed_end(path: &[u8]) -> bool
-    ensures { result ≡ is_compressed path.now }
-{
-    path.ends_with(b".ko.gz") || path.ends_with(b".ko.xz") || path.ends_with(b".ko.zst")
 }
 
 /// Returns the least path by bytes that has a bad byte.
@@ -122,6 +116,12 @@ fn bad_path<'a>(modules: &[&'a PathText]) -> Option<&'a PathText>
         }
     }
     least
+}
+
+fn has_compressed_end(path: &[u8]) -> bool
+    ensures { result ≡ is_compressed path.now }
+{
+    path.ends_with(b".ko.gz") || path.ends_with(b".ko.xz") || path.ends_with(b".ko.zst")
 }
 
 fn has_bad_byte(path: &[u8]) -> bool

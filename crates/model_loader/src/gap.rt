@@ -18,32 +18,26 @@ pub(crate) struct Run {
     size: u64,
 }
 
-/// Returns the addresses of the images of some entries.
-fn runs_of(alloc: Global, entries: &[Entry]) -> Result<Vec<Run>, AllocError>
-    ensures { IfOk result (λ v. v.items ≡ map run_of entries.now) }
+/// Returns the lowest page of a region such that `size` bytes from there on are free, among these
+/// entries.
+pub(crate) fn lowest_gap(
+    alloc: Global,
+    region: &Region,
+    entries: &[Entry],
+    size: u128,
+) -> Result<Option<u64>, AllocError>
+    requires some { 4096 ≤ size }
+    requires size { size < 2 ^ 100 }
+    requires paged { All (λ (e : Entry). IsPaged (run_of e)) entries.now }
+    ensures { IfOk result (λ gap. gap ≡ gap_among region.now entries.now size) }
 {
-    let mut runs = Vec::with_capacity(alloc, entries.len())?;
-    for entry in entries {
-        runs.push(Run {
-            base: entry.loaded.base,
-            size: entry.image.as_bytes().len() as u64,
-        })?;
+    let runs = sorted_runs(alloc, entries)?;
+    let at = lowest_free(region.base, &runs, size);
+    if at + size <= u128::from(region.base) + u128::from(region.size) {
+        Ok(Some(at as u64))
+    } else {
+        Ok(None)
     }
-    Ok(runs)
-}
-
-/// Returns whether the runs are in order of rising address, and may return false if they are.
-fn are_sorted(runs: &[Run]) -> bool
-    ensures { result ≡ true → IsNonDecreasingBy (λ (r : Run). r.base) runs.now }
-{
-    let mut last = 0;
-    for run in runs {
-        if run.base < last {
-            return false;
-        }
-        last = run.base;
-    }
-    true
 }
 
 /// Returns the addresses of the images of some entries, by rising address.
@@ -78,24 +72,30 @@ fn lowest_free(base: u64, runs: &[Run], size: u128) -> u128
     at
 }
 
-/// Returns the lowest page of a region such that `size` bytes from there on are free, among these
-/// entries.
-pub(crate) fn lowest_gap(
-    alloc: Global,
-    region: &Region,
-    entries: &[Entry],
-    size: u128,
-) -> Result<Option<u64>, AllocError>
-    requires some { 4096 ≤ size }
-    requires size { size < 2 ^ 100 }
-    requires paged { All (λ (e : Entry). IsPaged (run_of e)) entries.now }
-    ensures { IfOk result (λ gap. gap ≡ gap_among region.now entries.now size) }
+/// Returns the addresses of the images of some entries.
+fn runs_of(alloc: Global, entries: &[Entry]) -> Result<Vec<Run>, AllocError>
+    ensures { IfOk result (λ v. v.items ≡ map run_of entries.now) }
 {
-    let runs = sorted_runs(alloc, entries)?;
-    let at = lowest_free(region.base, &runs, size);
-    if at + size <= u128::from(region.base) + u128::from(region.size) {
-        Ok(Some(at as u64))
-    } else {
-        Ok(None)
+    let mut runs = Vec::with_capacity(alloc, entries.len())?;
+    for entry in entries {
+        runs.push(Run {
+            base: entry.loaded.base,
+            size: entry.image.as_bytes().len() as u64,
+        })?;
     }
+    Ok(runs)
+}
+
+/// Returns whether the runs are in order of rising address, and may return false if they are.
+fn are_sorted(runs: &[Run]) -> bool
+    ensures { result ≡ true → IsNonDecreasingBy (λ (r : Run). r.base) runs.now }
+{
+    let mut last = 0;
+    for run in runs {
+        if run.base < last {
+            return false;
+        }
+        last = run.base;
+    }
+    true
 }

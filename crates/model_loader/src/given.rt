@@ -10,29 +10,6 @@ use module_facts::{Facts, Need};
 use std::alloc::{AllocError, Global};
 use symbol_binding::sees;
 
-/// Returns the address of a need of a module.
-fn address_of(table: &ExportTable, facts: &Facts, need: &Need) -> u64
-    ensures { result ≡ kept_address table.now facts.now need.now }
-{
-    match table.get(need.name.as_bytes()) {
-        Some(standing) => {
-            if sees(facts.free, standing.gpl) {
-                standing.address
-            } else {
-                0
-            }
-        }
-        None => 0,
-    }
-}
-
-/// Returns this many zeros.
-fn zeros(alloc: Global, count: usize) -> Result<Vec<u64>, AllocError>
-    ensures { IfOk result (λ v. v.items ≡ replicate count 0) }
-{
-    vec![in alloc; 0; count]
-}
-
 /// Returns for each of `count` symbols of a module the address of the first need of that symbol, or
 /// 0 if there is none.
 pub(crate) fn given_addresses(
@@ -53,4 +30,27 @@ pub(crate) fn given_addresses(
         given[need.symbol as usize] = address_of(table, facts, need);
     }
     Ok(given)
+}
+
+/// Returns this many zeros.
+fn zeros(alloc: Global, count: usize) -> Result<Vec<u64>, AllocError>
+    ensures { IfOk result (λ v. v.items ≡ replicate count 0) }
+{
+    vec![in alloc; 0; count]
+}
+
+/// Returns the address of a need of a module.
+fn address_of(table: &ExportTable, facts: &Facts, need: &Need) -> u64
+    ensures { result ≡ kept_address table.now facts.now need.now }
+{
+    match table.get(need.name.as_bytes()) {
+        Some(standing) => {
+            if sees(facts.free, standing.gpl) {
+                standing.address
+            } else {
+                0
+            }
+        }
+        None => 0,
+    }
 }

@@ -28,21 +28,6 @@ pub(crate) fn is_loaded(entries: &[Entry], name: &[u8]) -> bool
         .any(|entry| entry.loaded.name.as_bytes() == name)
 }
 
-/// Returns the refusal of an export whose name is taken.
-fn taken(alloc: Global, export: &Export, standing: &Standing) -> Result<LoadFault, AllocError>
-    ensures { IfOk result
-        (λ e. e ≡ ExportTaken export.now.name (unwrap_or standing.now.owner vmlinux)) }
-{
-    let owner = match &standing.owner {
-        Some(owner) => owner.as_bytes(),
-        None => b"vmlinux",
-    };
-    Ok(LoadFault::ExportTaken {
-        name: Name::from_slice(alloc, export.name.as_bytes())?,
-        owner: Name::from_slice(alloc, owner)?,
-    })
-}
-
 /// Tests that no name of a module's exports is taken.
 pub(crate) fn check_exports(
     alloc: Global,
@@ -86,4 +71,19 @@ pub(crate) fn check_names(
     Check::Barred.check(alloc, table, facts)?;
     check_exports(alloc, table, facts)?;
     Ok(())
+}
+
+/// Returns the refusal of an export whose name is taken.
+fn taken(alloc: Global, export: &Export, standing: &Standing) -> Result<LoadFault, AllocError>
+    ensures { IfOk result
+        (λ e. e ≡ ExportTaken export.now.name (unwrap_or standing.now.owner vmlinux)) }
+{
+    let owner = match &standing.owner {
+        Some(owner) => owner.as_bytes(),
+        None => b"vmlinux",
+    };
+    Ok(LoadFault::ExportTaken {
+        name: Name::from_slice(alloc, export.name.as_bytes())?,
+        owner: Name::from_slice(alloc, owner)?,
+    })
 }

@@ -13,13 +13,6 @@ use module_facts::{Export, Exports, Need, Needs};
 use std::alloc::{AllocError, Global};
 use std::collections::VecDeque;
 
-/// Copies a name.
-fn copied(alloc: Global, name: &Name) -> Result<Name, AllocError>
-    ensures { IfOk result (λ copy. copy ≡ name.now) }
-{
-    Name::from_slice(alloc, name.as_bytes())
-}
-
 /// Copies names.
 pub(crate) fn copied_names(alloc: Global, names: &Names) -> Result<Names, AllocError>
     ensures { IfOk result (λ copy. copy ≡ names.now) }
@@ -29,6 +22,56 @@ pub(crate) fn copied_names(alloc: Global, names: &Names) -> Result<Names, AllocE
         copy.push(copied(alloc, name)?)?;
     }
     Ok(copy)
+}
+
+/// Returns the exports of a module, by the addresses of its symbols.
+pub(crate) fn placed_exports(
+    alloc: Global,
+    exports: &Exports,
+    addresses: &[u64],
+) -> Result<List<PlacedExport>, AllocError>
+    requires { All (λ (e : Export). e.symbol < length addresses.now) exports.now }
+    ensures { IfOk result (λ l. l ≡ map (placed_by addresses.now) exports.now) }
+{
+    let mut placed = List::new(alloc);
+    for export in exports.as_slice() {
+        placed.push(placed_export(alloc, export, addresses)?)?;
+    }
+    Ok(placed)
+}
+
+/// Returns what an entry keeps of the needs of a module.
+pub(crate) fn bound_needs(alloc: Global, needs: &Needs) -> Result<List<BoundNeed>, AllocError>
+    ensures { IfOk result (λ l. l ≡ map bound_need needs.now) }
+{
+    let mut copy = List::new(alloc);
+    for need in needs.as_slice() {
+        copy.push(bound_need(alloc, need)?)?;
+    }
+    Ok(copy)
+}
+
+/// Returns the table's entries for the exports of an owner.
+pub(crate) fn named_exports(
+    alloc: Global,
+    owner: &[u8],
+    exports: &List<PlacedExport>,
+) -> Result<VecDeque<Named>, AllocError>
+    ensures { IfOk result
+        (λ named. map named_pair named.items ≡ map (export_pair (Some owner.now)) exports.now) }
+{
+    let mut named = VecDeque::new(alloc);
+    for export in exports.as_slice() {
+        named.push_back(named_export(alloc, owner, export)?)?;
+    }
+    Ok(named)
+}
+
+/// Copies a name.
+fn copied(alloc: Global, name: &Name) -> Result<Name, AllocError>
+    ensures { IfOk result (λ copy. copy ≡ name.now) }
+{
+    Name::from_slice(alloc, name.as_bytes())
 }
 
 /// Returns an export of a module, by the addresses of the module's symbols.
@@ -49,22 +92,6 @@ fn placed_export(
     })
 }
 
-/// Returns the exports of a module, by the addresses of its symbols.
-pub(crate) fn placed_exports(
-    alloc: Global,
-    exports: &Exports,
-    addresses: &[u64],
-) -> Result<List<PlacedExport>, AllocError>
-    requires { All (λ (e : Export). e.symbol < length addresses.now) exports.now }
-    ensures { IfOk result (λ l. l ≡ map (placed_by addresses.now) exports.now) }
-{
-    let mut placed = List::new(alloc);
-    for export in exports.as_slice() {
-        placed.push(placed_export(alloc, export, addresses)?)?;
-    }
-    Ok(placed)
-}
-
 /// Returns what an entry keeps of a need.
 fn bound_need(alloc: Global, need: &Need) -> Result<BoundNeed, AllocError>
     ensures { IfOk result (λ n. n ≡ bound_need need.now) }
@@ -74,17 +101,6 @@ fn bound_need(alloc: Global, need: &Need) -> Result<BoundNeed, AllocError>
         weak: need.weak,
         crc: need.crc,
     })
-}
-
-/// Returns what an entry keeps of the needs of a module.
-pub(crate) fn bound_needs(alloc: Global, needs: &Needs) -> Result<List<BoundNeed>, AllocError>
-    ensures { IfOk result (λ l. l ≡ map bound_need needs.now) }
-{
-    let mut copy = List::new(alloc);
-    for need in needs.as_slice() {
-        copy.push(bound_need(alloc, need)?)?;
-    }
-    Ok(copy)
 }
 
 /// Returns the table's entry for an export of an owner.
@@ -102,20 +118,4 @@ fn named_export(alloc: Global, owner: &[u8], export: &PlacedExport) -> Result<Na
         owner: Some(owner),
     };
     Ok(Named { name, standing })
-}
-
-/// Returns the table's entries for the exports of an owner.
-pub(crate) fn named_exports(
-    alloc: Global,
-    owner: &[u8],
-    exports: &List<PlacedExport>,
-) -> Result<VecDeque<Named>, AllocError>
-    ensures { IfOk result
-        (λ named. map named_pair named.items ≡ map (export_pair (Some owner.now)) exports.now) }
-{
-    let mut named = VecDeque::new(alloc);
-    for export in exports.as_slice() {
-        named.push_back(named_export(alloc, owner, export)?)?;
-    }
-    Ok(named)
 }

@@ -34,73 +34,6 @@ pub(crate) struct Prepared {
     pub(crate) named: VecDeque<Named>,
 }
 
-/// Returns the entry of a module at a base, by its image and the addresses of its symbols.
-fn entry_with(
-    alloc: Global,
-    module: &Module,
-    base: u64,
-    image: Image,
-    addresses: &[u64],
-) -> Result<Entry, AllocError>
-    requires { length addresses.now ≡ length «module».now.object.symbols }
-    ensures { IfOk result (λ e. e ≡ entry_by «module».now base image addresses.now) }
-{
-    let facts = &module.facts;
-    let size = image.as_bytes().len() as u64;
-    Ok(Entry {
-        loaded: LoadedModule {
-            name: Name::from_slice(alloc, facts.name.as_bytes())?,
-            base,
-            size,
-        },
-        image,
-        free: facts.free,
-        imports: copied_names(alloc, &facts.imports)?,
-        exports: placed_exports(alloc, &facts.exports, addresses)?,
-        needs: bound_needs(alloc, &facts.needs)?,
-    })
-}
-
-/// Returns the entry of a module at a base, over the machine whose exported names are in a table.
-fn entry_of(
-    alloc: Global,
-    table: &ExportTable,
-    module: &Module,
-    base: u64,
-) -> Result<Entry, LoadFault>
-    requires { module_size «module».now < 2 ^ 63 }
-    ensures entry { IfOk result
-        (λ e. (machine : Machine) → Keeps table.now machine
-        → e ≡ entry_at machine «module».now base) }
-    ensures fits { OnOk result
-        ((machine : Machine) → Keeps table.now machine
-        → overflow_fault machine «module».now base ≡ None) }
-    ensures fault { IfErr result (λ e. (machine : Machine) → Keeps table.now machine
-        → (e ≡ LoadFault.Memory) ⊎ (overflow_fault machine «module».now base ≡ Some e)) }
-{
-    let object = &module.object;
-    let layout = Layout::new(alloc, object)?;
-    let given = given_addresses(alloc, table, &module.facts, object.symbol_count())?;
-    let addresses = addresses(alloc, object, &layout, base, &given)?;
-    let image = match image_at(alloc, object, &layout, base, &addresses) {
-        Ok(image) => image,
-        Err(fault) => return Err(LoadFault::from(fault)),
-    };
-    Ok(entry_with(alloc, module, base, image, &addresses)?)
-}
-
-/// Returns the number of pages of this many bytes, as a refusal states it.
-fn named_pages(size: u128) -> u64
-    ensures { result ≡ named_pages (size / 4096) }
-{
-    let pages = size / u128::from(PAGE);
-    if pages < 1 << 64 {
-        pages as u64
-    } else {
-        u64::MAX
-    }
-}
-
 /// Returns the entry of a module in the lowest gap of a region, over the machine that has these
 /// entries and whose exported names are in a table.
 pub(crate) fn prepare(
@@ -137,4 +70,71 @@ pub(crate) fn prepare(
     let entry = entry_of(alloc, table, module, base)?;
     let named = named_exports(alloc, entry.loaded.name.as_bytes(), &entry.exports)?;
     Ok(Prepared { entry, named })
+}
+
+/// Returns the number of pages of this many bytes, as a refusal states it.
+fn named_pages(size: u128) -> u64
+    ensures { result ≡ named_pages (size / 4096) }
+{
+    let pages = size / u128::from(PAGE);
+    if pages < 1 << 64 {
+        pages as u64
+    } else {
+        u64::MAX
+    }
+}
+
+/// Returns the entry of a module at a base, over the machine whose exported names are in a table.
+fn entry_of(
+    alloc: Global,
+    table: &ExportTable,
+    module: &Module,
+    base: u64,
+) -> Result<Entry, LoadFault>
+    requires { module_size «module».now < 2 ^ 63 }
+    ensures entry { IfOk result
+        (λ e. (machine : Machine) → Keeps table.now machine
+        → e ≡ entry_at machine «module».now base) }
+    ensures fits { OnOk result
+        ((machine : Machine) → Keeps table.now machine
+        → overflow_fault machine «module».now base ≡ None) }
+    ensures fault { IfErr result (λ e. (machine : Machine) → Keeps table.now machine
+        → (e ≡ LoadFault.Memory) ⊎ (overflow_fault machine «module».now base ≡ Some e)) }
+{
+    let object = &module.object;
+    let layout = Layout::new(alloc, object)?;
+    let given = given_addresses(alloc, table, &module.facts, object.symbol_count())?;
+    let addresses = addresses(alloc, object, &layout, base, &given)?;
+    let image = match image_at(alloc, object, &layout, base, &addresses) {
+        Ok(image) => image,
+        Err(fault) => return Err(LoadFault::from(fault)),
+    };
+    Ok(entry_with(alloc, module, base, image, &addresses)?)
+}
+
+/// Returns the entry of a module at a base, by its image and the addresses of its symbols.
+fn entry_with(
+    alloc: Global,
+    module: &Module,
+    base: u64,
+    image: Image,
+    addresses: &[u64],
+) -> Result<Entry, AllocError>
+    requires { length addresses.now ≡ length «module».now.object.symbols }
+    ensures { IfOk result (λ e. e ≡ entry_by «module».now base image addresses.now) }
+{
+    let facts = &module.facts;
+    let size = image.as_bytes().len() as u64;
+    Ok(Entry {
+        loaded: LoadedModule {
+            name: Name::from_slice(alloc, facts.name.as_bytes())?,
+            base,
+            size,
+        },
+        image,
+        free: facts.free,
+        imports: copied_names(alloc, &facts.imports)?,
+        exports: placed_exports(alloc, &facts.exports, addresses)?,
+        needs: bound_needs(alloc, &facts.needs)?,
+    })
 }

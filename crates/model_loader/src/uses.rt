@@ -13,38 +13,6 @@ use name_table::NameTable;
 use std::alloc::{AllocError, Global};
 use symbol_binding::sees;
 
-/// Returns whether the owner of an export is the module of this name.
-fn is_owner(standing: &Standing, name: &[u8]) -> bool
-    ensures { result ≡ is_owner name.now standing.now }
-{
-    match &standing.owner {
-        Some(owner) => owner.as_bytes() == name,
-        None => false,
-    }
-}
-
-/// Returns whether the module of this name exports a need of another, with an export that the other
-/// sees.
-fn is_met_by(table: &ExportTable, free: bool, name: &[u8], need: &BoundNeed) -> bool
-    ensures { result ≡ is_met_named table.now free name.now need.now }
-{
-    match table.get(need.name.as_bytes()) {
-        Some(standing) => is_owner(standing, name) && sees(free, standing.gpl),
-        None => false,
-    }
-}
-
-/// Returns whether the module of this name exports any need of the user, with an export that the
-/// user sees.
-fn uses_named(table: &ExportTable, user: &Entry, name: &[u8]) -> bool
-    ensures { result ≡ list_any (is_met_named table.now user.now.free name.now) user.now.needs }
-{
-    user.needs
-        .as_slice()
-        .iter()
-        .any(|need| is_met_by(table, user.free, name, need))
-}
-
 /// Returns whether the module at the place `k` binds to the one at the place `j`.
 pub(crate) fn binds_to(table: &ExportTable, user: &Entry, k: usize, other: &Entry, j: usize) -> bool
     ensures { result
@@ -53,66 +21,6 @@ pub(crate) fn binds_to(table: &ExportTable, user: &Entry, k: usize, other: &Entr
         user.now.needs) }
 {
     j < k && uses_named(table, user, other.loaded.name.as_bytes())
-}
-
-/// Returns the place of the owner of an export, if the export is seen and the owner is a module.
-fn owner_place(places: &NameTable, free: bool, standing: &Standing) -> Option<u32>
-    ensures { result ≡ owner_place places.now free standing.now }
-{
-    if !sees(free, standing.gpl) {
-        return None;
-    }
-    match &standing.owner {
-        Some(owner) => places.place(owner.as_bytes()),
-        None => None,
-    }
-}
-
-/// Returns the place of the module that exports a need, with an export that is seen.
-fn met_place(table: &ExportTable, places: &NameTable, free: bool, need: &BoundNeed) -> Option<u32>
-    ensures { result ≡ met_place table.now places.now free need.now }
-{
-    match table.get(need.name.as_bytes()) {
-        Some(standing) => owner_place(places, free, standing),
-        None => None,
-    }
-}
-
-/// Returns the place of the module that exports a need, with an export that is seen, if it is below
-/// `k`.
-fn bound_place(
-    table: &ExportTable,
-    places: &NameTable,
-    free: bool,
-    k: usize,
-    need: &BoundNeed,
-) -> Option<usize>
-    ensures { result ≡ bound_place table.now places.now free k need.now }
-{
-    let place = met_place(table, places, free, need)? as usize;
-    if place < k { Some(place) } else { None }
-}
-
-/// Returns the places of the modules that the module at a place binds to.
-fn bound_places(
-    alloc: Global,
-    table: &ExportTable,
-    places: &NameTable,
-    entry: &Entry,
-    k: usize,
-) -> Result<Vec<usize>, AllocError>
-    ensures { IfOk result
-        (λ v. (j : ℕ)
-        → list_any (nat_eq j) v.items
-        ≡ list_any (is_bound_at table.now places.now entry.now.free k j) entry.now.needs) }
-{
-    let mut bound = Vec::new(alloc);
-    for need in entry.needs.as_slice() {
-        if let Some(place) = bound_place(table, places, entry.free, k, need) {
-            bound.push(place)?;
-        }
-    }
-    Ok(bound)
 }
 
 /// Returns the place of each module by its name.
@@ -147,4 +55,96 @@ pub(crate) fn all_bound_places(
         all.push(bound_places(alloc, table, places, &entries[k], k)?)?;
     }
     Ok(all)
+}
+
+/// Returns whether the module of this name exports any need of the user, with an export that the
+/// user sees.
+fn uses_named(table: &ExportTable, user: &Entry, name: &[u8]) -> bool
+    ensures { result ≡ list_any (is_met_named table.now user.now.free name.now) user.now.needs }
+{
+    user.needs
+        .as_slice()
+        .iter()
+        .any(|need| is_met_by(table, user.free, name, need))
+}
+
+/// Returns the places of the modules that the module at a place binds to.
+fn bound_places(
+    alloc: Global,
+    table: &ExportTable,
+    places: &NameTable,
+    entry: &Entry,
+    k: usize,
+) -> Result<Vec<usize>, AllocError>
+    ensures { IfOk result
+        (λ v. (j : ℕ)
+        → list_any (nat_eq j) v.items
+        ≡ list_any (is_bound_at table.now places.now entry.now.free k j) entry.now.needs) }
+{
+    let mut bound = Vec::new(alloc);
+    for need in entry.needs.as_slice() {
+        if let Some(place) = bound_place(table, places, entry.free, k, need) {
+            bound.push(place)?;
+        }
+    }
+    Ok(bound)
+}
+
+/// Returns whether the module of this name exports a need of another, with an export that the other
+/// sees.
+fn is_met_by(table: &ExportTable, free: bool, name: &[u8], need: &BoundNeed) -> bool
+    ensures { result ≡ is_met_named table.now free name.now need.now }
+{
+    match table.get(need.name.as_bytes()) {
+        Some(standing) => is_owner(standing, name) && sees(free, standing.gpl),
+        None => false,
+    }
+}
+
+/// Returns the place of the module that exports a need, with an export that is seen, if it is below
+/// `k`.
+fn bound_place(
+    table: &ExportTable,
+    places: &NameTable,
+    free: bool,
+    k: usize,
+    need: &BoundNeed,
+) -> Option<usize>
+    ensures { result ≡ bound_place table.now places.now free k need.now }
+{
+    let place = met_place(table, places, free, need)? as usize;
+    if place < k { Some(place) } else { None }
+}
+
+/// Returns whether the owner of an export is the module of this name.
+fn is_owner(standing: &Standing, name: &[u8]) -> bool
+    ensures { result ≡ is_owner name.now standing.now }
+{
+    match &standing.owner {
+        Some(owner) => owner.as_bytes() == name,
+        None => false,
+    }
+}
+
+/// Returns the place of the module that exports a need, with an export that is seen.
+fn met_place(table: &ExportTable, places: &NameTable, free: bool, need: &BoundNeed) -> Option<u32>
+    ensures { result ≡ met_place table.now places.now free need.now }
+{
+    match table.get(need.name.as_bytes()) {
+        Some(standing) => owner_place(places, free, standing),
+        None => None,
+    }
+}
+
+/// Returns the place of the owner of an export, if the export is seen and the owner is a module.
+fn owner_place(places: &NameTable, free: bool, standing: &Standing) -> Option<u32>
+    ensures { result ≡ owner_place places.now free standing.now }
+{
+    if !sees(free, standing.gpl) {
+        return None;
+    }
+    match &standing.owner {
+        Some(owner) => places.place(owner.as_bytes()),
+        None => None,
+    }
 }

@@ -79,19 +79,6 @@ impl FieldList {
     }
 }
 
-/// Returns the number of pieces between NULs that aren't empty.
-fn piece_count(bytes: &[u8]) -> usize {
-    let mut count = 0;
-    let mut after_nul = true;
-    for byte in bytes {
-        if after_nul && *byte != 0 {
-            count += 1;
-        }
-        after_nul = *byte == 0;
-    }
-    count
-}
-
 /// Returns the fields of a `.modinfo` section's bytes: its pieces between NULs that aren't empty,
 /// in order. The last piece needs no NUL. The list has room for these fields and no more, since a
 /// section may have a field for each two of its bytes.
@@ -144,4 +131,17 @@ pub fn field_values(alloc: Global, bytes: &[u8], key: &[u8]) -> Result<Texts, Al
         rest = after;
     }
     Ok(values)
+}
+
+/// Returns the number of pieces between NULs that aren't empty.
+fn piece_count(bytes: &[u8]) -> usize {
+    let mut count = 0;
+    let mut after_nul = true;
+    for byte in bytes {
+        if after_nul && *byte != 0 {
+            count += 1;
+        }
+        after_nul = *byte == 0;
+    }
+    count
 }

@@ -13,9 +13,6 @@ use name_table::{NameHash, NameKey, NameSet};
 use std::alloc::{AllocError, Global};
 use std::hash::BuildHasherDefault;
 
-// Descriptions of parameters, by the parameters' names.
-type Told<'a> = IndexMap<NameKey<'a>, &'a [u8], NameHash>;
-
 /// Returns whether the field describes a parameter.
 pub(crate) fn is_parameter(field: &Field) -> bool
     ensures { result ≡ is_parameter field.now }
@@ -36,6 +33,22 @@ pub(crate) fn parameter_values(alloc: Global, fields: &FieldList) -> Result<Text
     described_by(alloc, &names, parms.as_slice(), types.as_slice())
 }
 
+// Returns the parameters that any field describes, in the order they are first seen in.
+fn parameter_names<'a>(alloc: Global, fields: &'a FieldList) -> Result<NameSet<'a>, AllocError>
+    ensures { IfOk result (λ names. names ≡ parameter_names fields.now) }
+{
+    let mut names = NameSet::new(alloc);
+    for i in 0..fields.len() {
+        if let Some(field) = fields.get(i) {
+            if is_parameter(field) {
+                let (name, _rest) = split_at_byte(field.value.as_bytes(), b':');
+                names.insert(name)?;
+            }
+        }
+    }
+    Ok(names)
+}
+
 // Returns the values of parameters, by the values of the two keys that describe parameters.
 fn described_by(
     alloc: Global,
@@ -50,6 +63,19 @@ fn described_by(
     let texts = first_told(alloc, parms)?;
     let kinds = first_told(alloc, types)?;
     described_all(alloc, names, &texts, &kinds)
+}
+
+// Returns for each parameter its description by the first of the values that describes it.
+fn first_told<'a>(alloc: Global, values: &'a [Blob]) -> Result<Told<'a>, AllocError>
+    ensures { IfOk result
+        (λ told. (name : List ℕ) → told_in told name ≡ first_told values.now name) }
+{
+    let mut told = IndexMap::with_hasher(alloc, BuildHasherDefault::new());
+    for value in values {
+        let (name, rest) = split_at_byte(value.as_bytes(), b':');
+        keep_first(&mut told, name, rest)?;
+    }
+    Ok(told)
 }
 
 // Returns the values of parameters, by their descriptions.
@@ -69,6 +95,22 @@ fn described_all(
         }
     }
     Ok(values)
+}
+
+// Descriptions of parameters, by the parameters' names.
+type Told<'a> = IndexMap<NameKey<'a>, &'a [u8], NameHash>;
+
+// Inserts a description under a name, unless the name has one.
+fn keep_first<'a>(told: &mut Told<'a>, name: &'a [u8], rest: &'a [u8]) -> Result<(), AllocError>
+    ensures ok { OnOk result ((other : List ℕ) → told_in told.new other
+        ≡ option_or (told_in told.old other)
+        (if bytes_eq name.now other then Some rest.now else None)) }
+{
+    let key = NameKey::new(name);
+    if told.get(&key).is_none() {
+        told.insert(key, rest)?;
+    }
+    Ok(())
 }
 
 // Returns the value of a parameter, by the descriptions of all.
@@ -113,46 +155,4 @@ fn describe(
         (None, None) => {}
     }
     Ok(value)
-}
-
-// Returns for each parameter its description by the first of the values that describes it.
-fn first_told<'a>(alloc: Global, values: &'a [Blob]) -> Result<Told<'a>, AllocError>
-    ensures { IfOk result
-        (λ told. (name : List ℕ) → told_in told name ≡ first_told values.now name) }
-{
-    let mut told = IndexMap::with_hasher(alloc, BuildHasherDefault::new());
-    for value in values {
-        let (name, rest) = split_at_byte(value.as_bytes(), b':');
-        keep_first(&mut told, name, rest)?;
-    }
-    Ok(told)
-}
-
-// Inserts a description under a name, unless the name has one.
-fn keep_first<'a>(told: &mut Told<'a>, name: &'a [u8], rest: &'a [u8]) -> Result<(), AllocError>
-    ensures ok { OnOk result ((other : List ℕ) → told_in told.new other
-        ≡ option_or (told_in told.old other)
-        (if bytes_eq name.now other then Some rest.now else None)) }
-{
-    let key = NameKey::new(name);
-    if told.get(&key).is_none() {
-        told.insert(key, rest)?;
-    }
-    Ok(())
-}
-
-// Returns the parameters that any field describes, in the order they are first seen in.
-fn parameter_names<'a>(alloc: Global, fields: &'a FieldList) -> Result<NameSet<'a>, AllocError>
-    ensures { IfOk result (λ names. names ≡ parameter_names fields.now) }
-{
-    let mut names = NameSet::new(alloc);
-    for i in 0..fields.len() {
-        if let Some(field) = fields.get(i) {
-            if is_parameter(field) {
-                let (name, _rest) = split_at_byte(field.value.as_bytes(), b':');
-                names.insert(name)?;
-            }
-        }
-    }
-    Ok(names)
 }

@@ -27,9 +27,6 @@ pub enum Rule {
     Softdep { name: Name, pre: Names, post: Names },
 }
 
-/// The rules of configuration files, in order.
-pub type Rules = List<Rule>;
-
 impl Statement for Rule {
     ghost use Rattle.modprobe_conf.specs.Rules.{rule_of};
 
@@ -44,6 +41,9 @@ impl Statement for Rule {
     }
 }
 
+/// The rules of configuration files, in order.
+pub type Rules = List<Rule>;
+
 /// The first word of a line of modprobe.d(5).
 #[derive(Clone, Copy)]
 pub(crate) enum Command {
@@ -53,6 +53,13 @@ pub(crate) enum Command {
     Install,
     Remove,
     Softdep,
+}
+
+/// A module's name, and the rest of a line, unchanged.
+#[derive(Drop)]
+pub(crate) struct Named {
+    pub(crate) name: Name,
+    pub(crate) text: Blob,
 }
 
 /// Returns the command of this name.
@@ -91,43 +98,6 @@ fn rule_of_command(alloc: Global, command: Command, rest: &[u8]) -> Result<Optio
     }
 }
 
-/// A module's name, and the rest of a line, unchanged.
-#[derive(Drop)]
-pub(crate) struct Named {
-    pub(crate) name: Name,
-    pub(crate) text: Blob,
-}
-
-/// Returns the rule of `options NAME TEXT`.
-fn options_rule(named: Named) -> Rule
-    ensures { result ≡ Rule.Options named.name named.text }
-{
-    let Named { name, text } = named;
-    Rule::Options { name, text }
-}
-
-/// Returns the rule of `install NAME COMMAND`.
-fn install_rule(named: Named) -> Rule
-    ensures { result ≡ Rule.Install named.name named.text }
-{
-    let Named { name, text } = named;
-    Rule::Install {
-        name,
-        command: text,
-    }
-}
-
-/// Returns the rule of `remove NAME COMMAND`.
-fn remove_rule(named: Named) -> Rule
-    ensures { result ≡ Rule.Remove named.name named.text }
-{
-    let Named { name, text } = named;
-    Rule::Remove {
-        name,
-        command: text,
-    }
-}
-
 /// Returns the rule of `alias PATTERN NAME`, from what follows the command. Further words are
 /// ignored.
 fn alias_rule(alloc: Global, rest: &[u8]) -> Result<Option<Rule>, AllocError>
@@ -160,20 +130,6 @@ fn blacklist_rule(alloc: Global, rest: &[u8]) -> Result<Option<Rule>, AllocError
     }))
 }
 
-/// Returns a name and the rest after it. The result is `None` if the rest is empty.
-fn name_with_rest(alloc: Global, rest: &[u8]) -> Result<Option<Named>, AllocError>
-    ensures { IfOk result (λ both. both ≡ name_with_rest rest.now) }
-{
-    let (name, text) = split_word(rest);
-    if text.is_empty() {
-        return Ok(None);
-    }
-    Ok(Some(Named {
-        name: underscored(alloc, name)?,
-        text: Blob::from_slice(alloc, text)?,
-    }))
-}
-
 /// Returns the rule of `softdep NAME pre: NAMES post: NAMES`, from what follows the command.
 fn softdep_rule(alloc: Global, rest: &[u8]) -> Result<Option<Rule>, AllocError>
     ensures { IfOk result (λ rule. rule ≡ softdep_rule rest.now) }
@@ -189,11 +145,48 @@ fn softdep_rule(alloc: Global, rest: &[u8]) -> Result<Option<Rule>, AllocError>
     }))
 }
 
-/// Returns whether a word of a line of soft dependencies is one of the markers `pre:` and `post:`.
-fn is_marker(word: &[u8]) -> bool
-    ensures { result ≡ is_marker word.now }
+/// Returns a name and the rest after it. The result is `None` if the rest is empty.
+fn name_with_rest(alloc: Global, rest: &[u8]) -> Result<Option<Named>, AllocError>
+    ensures { IfOk result (λ both. both ≡ name_with_rest rest.now) }
 {
-    word == b"pre:".as_slice() || word == b"post:".as_slice()
+    let (name, text) = split_word(rest);
+    if text.is_empty() {
+        return Ok(None);
+    }
+    Ok(Some(Named {
+        name: underscored(alloc, name)?,
+        text: Blob::from_slice(alloc, text)?,
+    }))
+}
+
+/// Returns the rule of `options NAME TEXT`.
+fn options_rule(named: Named) -> Rule
+    ensures { result ≡ Rule.Options named.name named.text }
+{
+    let Named { name, text } = named;
+    Rule::Options { name, text }
+}
+
+/// Returns the rule of `install NAME COMMAND`.
+fn install_rule(named: Named) -> Rule
+    ensures { result ≡ Rule.Install named.name named.text }
+{
+    let Named { name, text } = named;
+    Rule::Install {
+        name,
+        command: text,
+    }
+}
+
+/// Returns the rule of `remove NAME COMMAND`.
+fn remove_rule(named: Named) -> Rule
+    ensures { result ≡ Rule.Remove named.name named.text }
+{
+    let Named { name, text } = named;
+    Rule::Remove {
+        name,
+        command: text,
+    }
 }
 
 /// Returns the names after each such marker in a text of words, up to the next marker of either
@@ -216,6 +209,13 @@ fn names_after(alloc: Global, text: &[u8], marker: &[u8]) -> Result<Names, Alloc
         rest = after;
     }
     Ok(names)
+}
+
+/// Returns whether a word of a line of soft dependencies is one of the markers `pre:` and `post:`.
+fn is_marker(word: &[u8]) -> bool
+    ensures { result ≡ is_marker word.now }
+{
+    word == b"pre:".as_slice() || word == b"post:".as_slice()
 }
 
 /// Adds the name that a word states. A text that begins with white space has an empty word there,

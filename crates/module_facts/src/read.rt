@@ -19,87 +19,6 @@ use km_names::{Blob, PathText, is_compressed, module_name};
 use module_symbols::{SymbolTables, exports_by, modinfo_bytes, read_needs, tables_of};
 use std::alloc::{AllocError, Global};
 
-/// Returns the facts of the module at a path, by its object and the object's tables, if it exports
-/// something.
-#[tactic(auto, unfolding(crate::specs::Facts::object_facts, crate::specs::Facts::texts_of))]
-fn facts_by(
-    alloc: Global,
-    path: &PathText,
-    object: &ObjectView,
-    tables: Option<&SymbolTables>,
-) -> Result<Facts, AllocError>
-    requires { AreTablesFor (exports_of object.now) object.now (option_copied tables) }
-    ensures { IfOk result (λ facts. facts ≡ object_facts path.now object.now) }
-{
-    let stated_path = PathText::from_slice(alloc, path.as_bytes())?;
-    let name = module_name(alloc, path)?;
-    let exports = exports_by(alloc, object, tables)?;
-    let needs = read_needs(alloc, object)?;
-    let StatedTexts {
-        licenses,
-        aliases,
-        softdeps,
-        imports,
-    } = read_texts(alloc, modinfo_bytes(object))?;
-    Ok(Facts {
-        path: stated_path,
-        name,
-        exports,
-        needs,
-        aliases,
-        softdeps,
-        free: is_free(&licenses),
-        imports,
-    })
-}
-
-/// Returns the facts of the module at a path, after all tests that they must pass.
-fn checked_facts(alloc: Global, path: &PathText, object: &ObjectView) -> Result<Facts, ModuleFault>
-    ensures facts { IfOk result (λ facts. facts ≡ object_facts path.now object.now) }
-    ensures passed { OnOk result
-        (first (facts_tests object.now (object_facts path.now object.now)) ≡ None) }
-    ensures fault { IfErr result
-        (λ e. (e ≡ ModuleFault.Memory)
-        ⊎ (first (facts_tests object.now (object_facts path.now object.now)) ≡ Some e)) }
-{
-    let tables = tables_of(alloc, object)?;
-    facts_by_tables(alloc, path, object, tables.as_ref())
-}
-
-/// Returns the facts of the module at a path, after all tests that they must pass, by the tables of
-/// its symbols.
-fn facts_by_tables(
-    alloc: Global,
-    path: &PathText,
-    object: &ObjectView,
-    tables: Option<&SymbolTables>,
-) -> Result<Facts, ModuleFault>
-    requires { AreTablesFor (exports_of object.now) object.now (option_copied tables) }
-    ensures facts { IfOk result (λ facts. facts ≡ object_facts path.now object.now) }
-    ensures passed { OnOk result
-        (first (facts_tests object.now (object_facts path.now object.now)) ≡ None) }
-    ensures fault { IfErr result
-        (λ e. (e ≡ ModuleFault.Memory)
-        ⊎ (first (facts_tests object.now (object_facts path.now object.now)) ≡ Some e)) }
-{
-    let facts = facts_by(alloc, path, object, tables)?;
-    check_facts(alloc, object, tables, &facts)?;
-    Ok(facts)
-}
-
-/// Returns the facts of the module at a path, by its object.
-fn facts_of_object(alloc: Global, path: &PathText, object: &Object) -> Result<Facts, ModuleFault>
-    ensures facts { IfOk result (λ facts. facts ≡ object_facts path.now object.now) }
-    ensures passed { OnOk result
-        (first (facts_tests object.now (object_facts path.now object.now)) ≡ None) }
-    ensures fault { IfErr result
-        (λ e. (e ≡ ModuleFault.Memory)
-        ⊎ (first (facts_tests object.now (object_facts path.now object.now)) ≡ Some e)) }
-{
-    let view = object.view(alloc)?;
-    checked_facts(alloc, path, &view)
-}
-
 /// Reads the module at a path from the bytes of its file, and keeps the bytes. After a refusal they
 /// are dropped. modinfo(8), depmod(8).
 ///
@@ -147,4 +66,85 @@ pub fn read_facts(alloc: Global, path: &PathText, bytes: &[u8]) -> Result<Facts,
     }
     let object = ObjectView::read(alloc, bytes)?;
     checked_facts(alloc, path, &object)
+}
+
+/// Returns the facts of the module at a path, by its object.
+fn facts_of_object(alloc: Global, path: &PathText, object: &Object) -> Result<Facts, ModuleFault>
+    ensures facts { IfOk result (λ facts. facts ≡ object_facts path.now object.now) }
+    ensures passed { OnOk result
+        (first (facts_tests object.now (object_facts path.now object.now)) ≡ None) }
+    ensures fault { IfErr result
+        (λ e. (e ≡ ModuleFault.Memory)
+        ⊎ (first (facts_tests object.now (object_facts path.now object.now)) ≡ Some e)) }
+{
+    let view = object.view(alloc)?;
+    checked_facts(alloc, path, &view)
+}
+
+/// Returns the facts of the module at a path, after all tests that they must pass.
+fn checked_facts(alloc: Global, path: &PathText, object: &ObjectView) -> Result<Facts, ModuleFault>
+    ensures facts { IfOk result (λ facts. facts ≡ object_facts path.now object.now) }
+    ensures passed { OnOk result
+        (first (facts_tests object.now (object_facts path.now object.now)) ≡ None) }
+    ensures fault { IfErr result
+        (λ e. (e ≡ ModuleFault.Memory)
+        ⊎ (first (facts_tests object.now (object_facts path.now object.now)) ≡ Some e)) }
+{
+    let tables = tables_of(alloc, object)?;
+    facts_by_tables(alloc, path, object, tables.as_ref())
+}
+
+/// Returns the facts of the module at a path, after all tests that they must pass, by the tables of
+/// its symbols.
+fn facts_by_tables(
+    alloc: Global,
+    path: &PathText,
+    object: &ObjectView,
+    tables: Option<&SymbolTables>,
+) -> Result<Facts, ModuleFault>
+    requires { AreTablesFor (exports_of object.now) object.now (option_copied tables) }
+    ensures facts { IfOk result (λ facts. facts ≡ object_facts path.now object.now) }
+    ensures passed { OnOk result
+        (first (facts_tests object.now (object_facts path.now object.now)) ≡ None) }
+    ensures fault { IfErr result
+        (λ e. (e ≡ ModuleFault.Memory)
+        ⊎ (first (facts_tests object.now (object_facts path.now object.now)) ≡ Some e)) }
+{
+    let facts = facts_by(alloc, path, object, tables)?;
+    check_facts(alloc, object, tables, &facts)?;
+    Ok(facts)
+}
+
+/// Returns the facts of the module at a path, by its object and the object's tables, if it exports
+/// something.
+#[tactic(auto, unfolding(crate::specs::Facts::object_facts, crate::specs::Facts::texts_of))]
+fn facts_by(
+    alloc: Global,
+    path: &PathText,
+    object: &ObjectView,
+    tables: Option<&SymbolTables>,
+) -> Result<Facts, AllocError>
+    requires { AreTablesFor (exports_of object.now) object.now (option_copied tables) }
+    ensures { IfOk result (λ facts. facts ≡ object_facts path.now object.now) }
+{
+    let stated_path = PathText::from_slice(alloc, path.as_bytes())?;
+    let name = module_name(alloc, path)?;
+    let exports = exports_by(alloc, object, tables)?;
+    let needs = read_needs(alloc, object)?;
+    let StatedTexts {
+        licenses,
+        aliases,
+        softdeps,
+        imports,
+    } = read_texts(alloc, modinfo_bytes(object))?;
+    Ok(Facts {
+        path: stated_path,
+        name,
+        exports,
+        needs,
+        aliases,
+        softdeps,
+        free: is_free(&licenses),
+        imports,
+    })
 }

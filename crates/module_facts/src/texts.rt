@@ -9,20 +9,6 @@ use km_names::{Blob, Name, Names, Texts, split_at_byte};
 use modinfo_fields::value_of;
 use std::alloc::{AllocError, Global};
 
-/// Returns whether a module of this license may use GPL-only symbols. The kernel's
-/// include/linux/license.h.
-#[tactic(auto, unfolding(crate::specs::Facts::is_free_license))]
-fn is_free_license(license: &[u8]) -> bool
-    ensures { result ≡ is_free_license license.now }
-{
-    license == b"GPL".as_slice()
-        || license == b"GPL v2".as_slice()
-        || license == b"GPL and additional rights".as_slice()
-        || license == b"Dual BSD/GPL".as_slice()
-        || license == b"Dual MIT/GPL".as_slice()
-        || license == b"Dual MPL/GPL".as_slice()
-}
-
 /// Returns whether the first of these licenses is free. Without a license it isn't.
 #[tactic(auto, unfolding(crate::specs::Facts::is_free))]
 pub(crate) fn is_free(licenses: &Texts) -> bool
@@ -41,26 +27,6 @@ pub(crate) struct StatedTexts {
     pub(crate) aliases: Texts,
     pub(crate) softdeps: Texts,
     pub(crate) imports: Names,
-}
-
-/// Adds the value of a piece of the section between NULs, if it is a field with this key.
-fn push_value(alloc: Global, values: &mut Texts, piece: &[u8], key: &[u8]) -> Result<(), AllocError>
-    ensures { OnOk result (values.new ≡ values.old ++ values_in key.now piece.now) }
-{
-    if let Some(value) = value_of(piece, key) {
-        values.push(Blob::from_slice(alloc, value)?)?;
-    }
-    Ok(())
-}
-
-/// Adds the value of a piece of the section between NULs as a name, if it is a field with this key.
-fn push_name(alloc: Global, names: &mut Names, piece: &[u8], key: &[u8]) -> Result<(), AllocError>
-    ensures { OnOk result (names.new ≡ names.old ++ values_in key.now piece.now) }
-{
-    if let Some(value) = value_of(piece, key) {
-        names.push(Name::from_slice(alloc, value)?)?;
-    }
-    Ok(())
 }
 
 impl StatedTexts {
@@ -117,4 +83,38 @@ pub(crate) fn read_texts(alloc: Global, bytes: &[u8]) -> Result<StatedTexts, All
         rest = after;
     }
     Ok(texts)
+}
+
+/// Returns whether a module of this license may use GPL-only symbols. The kernel's
+/// include/linux/license.h.
+#[tactic(auto, unfolding(crate::specs::Facts::is_free_license))]
+fn is_free_license(license: &[u8]) -> bool
+    ensures { result ≡ is_free_license license.now }
+{
+    license == b"GPL".as_slice()
+        || license == b"GPL v2".as_slice()
+        || license == b"GPL and additional rights".as_slice()
+        || license == b"Dual BSD/GPL".as_slice()
+        || license == b"Dual MIT/GPL".as_slice()
+        || license == b"Dual MPL/GPL".as_slice()
+}
+
+/// Adds the value of a piece of the section between NULs, if it is a field with this key.
+fn push_value(alloc: Global, values: &mut Texts, piece: &[u8], key: &[u8]) -> Result<(), AllocError>
+    ensures { OnOk result (values.new ≡ values.old ++ values_in key.now piece.now) }
+{
+    if let Some(value) = value_of(piece, key) {
+        values.push(Blob::from_slice(alloc, value)?)?;
+    }
+    Ok(())
+}
+
+/// Adds the value of a piece of the section between NULs as a name, if it is a field with this key.
+fn push_name(alloc: Global, names: &mut Names, piece: &[u8], key: &[u8]) -> Result<(), AllocError>
+    ensures { OnOk result (names.new ≡ names.old ++ values_in key.now piece.now) }
+{
+    if let Some(value) = value_of(piece, key) {
+        names.push(Name::from_slice(alloc, value)?)?;
+    }
+    Ok(())
 }

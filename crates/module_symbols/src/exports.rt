@@ -53,15 +53,6 @@ pub fn given_version(object: &ObjectView, symbol: SymbolRef) -> Option<u64>
     }
 }
 
-/// Returns whether a symbol lies in the section for GPL-only exports.
-#[tactic(auto, unfolding(crate::specs::Exports::is_gpl_entry))]
-fn is_gpl_entry(object: &ObjectView, symbol: SymbolRef) -> bool
-    ensures { result ≡ is_gpl_entry object.now (owned_symbol symbol.entry) }
-{
-    let i = u32::from(symbol.section);
-    i < object.section_count() && object.section(i).name == b"__ksymtab_gpl".as_slice()
-}
-
 /// Returns the namespace that a symbol gives: the text at its value in its section. An absolute
 /// symbol gives none, nor does one whose section has no bytes in the file.
 #[tactic(auto, unfolding(crate::specs::Exports::given_space))]
@@ -70,6 +61,75 @@ pub fn given_space<'a>(object: &ObjectView<'a>, symbol: SymbolRef) -> Option<&'a
 {
     let bytes = section_contents(object, u32::from(symbol.section));
     string_at(bytes, symbol.value as usize)
+}
+
+/// Returns the exports, by the tables of the object. Without tables there are none.
+pub fn exports_by(
+    alloc: Global,
+    object: &ObjectView,
+    tables: Option<&SymbolTables>,
+) -> Result<Exports, AllocError>
+    requires { AreTablesFor (exports_of object.now) object.now (option_copied tables) }
+    ensures { IfOk result (λ exports. exports ≡ exports_of object.now) }
+{
+    match tables {
+        Some(tables) => read_exports(alloc, object, tables),
+        None => Ok(Exports::new(alloc)),
+    }
+}
+
+/// Returns the exports, in the order of the symbols that state them. Namespaces may share their
+/// bytes in the file, so a small file can ask for any number of them. If together they would have
+/// more than `NAME_LIMIT` bytes, the answer is out of memory.
+#[tactic(auto, unfolding(crate::specs::Exports::exports_of))]
+fn read_exports(
+    alloc: Global,
+    object: &ObjectView,
+    tables: &SymbolTables,
+) -> Result<Exports, AllocError>
+    requires { HasTables tables.now object.now }
+    ensures { IfOk result (λ exports. exports ≡ exports_of object.now) }
+{
+    let mut exports = Exports::new(alloc);
+    let mut left = NAME_LIMIT;
+    for i in 0..object.symbol_count() {
+        if let Some(name) = stated_name(Role::Export, object.symbol(i)) {
+            let export = read_export(alloc, object, tables, name, left)?;
+            left -= export.space.len();
+            exports.push(export)?;
+        }
+    }
+    Ok(exports)
+}
+
+/// Returns the export of a name, whose namespace has at most this many bytes.
+///
+/// # Errors
+///
+/// Out of memory, also if the namespace is longer.
+#[tactic(auto, unfolding(crate::specs::Exports::export_of))]
+fn read_export(
+    alloc: Global,
+    object: &ObjectView,
+    tables: &SymbolTables,
+    name: &[u8],
+    left: usize,
+) -> Result<Export, AllocError>
+    requires { HasTables tables.now object.now }
+    ensures export { IfOk result (λ export. export ≡ export_of object.now name.now) }
+    ensures short { IfOk result (λ export. length export.space ≤ left) }
+{
+    let space = space_of(object, tables, name);
+    if left < space.len() {
+        return Err(AllocError);
+    }
+    Ok(Export {
+        name: Name::from_slice(alloc, name)?,
+        symbol: tables.first_symbol(Role::Definition, name).unwrap_or(0),
+        crc: version_of(object, tables, name),
+        gpl: is_gpl(object, tables, name),
+        space: Name::from_slice(alloc, space)?,
+    })
 }
 
 /// Returns the namespace of an export, which is empty if no symbol gives one.
@@ -109,71 +169,11 @@ fn is_gpl(object: &ObjectView, tables: &SymbolTables, name: &[u8]) -> bool
     }
 }
 
-/// Returns the export of a name, whose namespace has at most this many bytes.
-///
-/// # Errors
-///
-/// Out of memory, also if the namespace is longer.
-#[tactic(auto, unfolding(crate::specs::Exports::export_of))]
-fn read_export(
-    alloc: Global,
-    object: &ObjectView,
-    tables: &SymbolTables,
-    name: &[u8],
-    left: usize,
-) -> Result<Export, AllocError>
-    requires { HasTables tables.now object.now }
-    ensures export { IfOk result (λ export. export ≡ export_of object.now name.now) }
-    ensures short { IfOk result (λ export. length export.space ≤ left) }
+/// Returns whether a symbol lies in the section for GPL-only exports.
+#[tactic(auto, unfolding(crate::specs::Exports::is_gpl_entry))]
+fn is_gpl_entry(object: &ObjectView, symbol: SymbolRef) -> bool
+    ensures { result ≡ is_gpl_entry object.now (owned_symbol symbol.entry) }
 {
-    let space = space_of(object, tables, name);
-    if left < space.len() {
-        return Err(AllocError);
-    }
-    Ok(Export {
-        name: Name::from_slice(alloc, name)?,
-        symbol: tables.first_symbol(Role::Definition, name).unwrap_or(0),
-        crc: version_of(object, tables, name),
-        gpl: is_gpl(object, tables, name),
-        space: Name::from_slice(alloc, space)?,
-    })
-}
-
-/// Returns the exports, in the order of the symbols that state them. Namespaces may share their
-/// bytes in the file, so a small file can ask for any number of them. If together they would have
-/// more than `NAME_LIMIT` bytes, the answer is out of memory.
-#[tactic(auto, unfolding(crate::specs::Exports::exports_of))]
-fn read_exports(
-    alloc: Global,
-    object: &ObjectView,
-    tables: &SymbolTables,
-) -> Result<Exports, AllocError>
-    requires { HasTables tables.now object.now }
-    ensures { IfOk result (λ exports. exports ≡ exports_of object.now) }
-{
-    let mut exports = Exports::new(alloc);
-    let mut left = NAME_LIMIT;
-    for i in 0..object.symbol_count() {
-        if let Some(name) = stated_name(Role::Export, object.symbol(i)) {
-            let export = read_export(alloc, object, tables, name, left)?;
-            left -= export.space.len();
-            exports.push(export)?;
-        }
-    }
-    Ok(exports)
-}
-
-/// Returns the exports, by the tables of the object. Without tables there are none.
-pub fn exports_by(
-    alloc: Global,
-    object: &ObjectView,
-    tables: Option<&SymbolTables>,
-) -> Result<Exports, AllocError>
-    requires { AreTablesFor (exports_of object.now) object.now (option_copied tables) }
-    ensures { IfOk result (λ exports. exports ≡ exports_of object.now) }
-{
-    match tables {
-        Some(tables) => read_exports(alloc, object, tables),
-        None => Ok(Exports::new(alloc)),
-    }
+    let i = u32::from(symbol.section);
+    i < object.section_count() && object.section(i).name == b"__ksymtab_gpl".as_slice()
 }

@@ -27,30 +27,11 @@ pub struct Need {
 /// The needs of a module, in the order of their symbols.
 pub type Needs = List<Need>;
 
-/// Returns whether the symbol `i` is needed from elsewhere.
-#[tactic(auto, unfolding(crate::specs::Needs::is_need))]
-fn is_need(i: u32, symbol: SymbolRef) -> bool
-    ensures { result ≡ is_need i (owned_symbol symbol.entry) }
+/// Returns the needs, in the order of their symbols.
+pub fn read_needs(alloc: Global, object: &ObjectView) -> Result<Needs, AllocError>
+    ensures { IfOk result (λ needs. needs ≡ needs_of object.now) }
 {
-    i > 0 && symbol.section == SHN_UNDEF && symbol.name != b"_GLOBAL_OFFSET_TABLE_".as_slice()
-}
-
-/// Returns the need that the symbol `i` states, by a version list.
-#[tactic(auto, unfolding(crate::specs::Needs::need_of))]
-fn read_need(
-    alloc: Global,
-    versions: &VersionList,
-    i: u32,
-    symbol: SymbolRef,
-) -> Result<Need, AllocError>
-    ensures { IfOk result (λ need. need ≡ need_of versions.now i (owned_symbol symbol.entry)) }
-{
-    Ok(Need {
-        name: Name::from_slice(alloc, symbol.name)?,
-        symbol: i,
-        weak: symbol.binding == STB_WEAK,
-        crc: versions.version_of(symbol.name),
-    })
+    needs_by(alloc, object, &VersionList::read(alloc, object)?)
 }
 
 /// Returns the needs by the version list of the object.
@@ -75,9 +56,28 @@ fn needs_by(
     Ok(needs)
 }
 
-/// Returns the needs, in the order of their symbols.
-pub fn read_needs(alloc: Global, object: &ObjectView) -> Result<Needs, AllocError>
-    ensures { IfOk result (λ needs. needs ≡ needs_of object.now) }
+/// Returns whether the symbol `i` is needed from elsewhere.
+#[tactic(auto, unfolding(crate::specs::Needs::is_need))]
+fn is_need(i: u32, symbol: SymbolRef) -> bool
+    ensures { result ≡ is_need i (owned_symbol symbol.entry) }
 {
-    needs_by(alloc, object, &VersionList::read(alloc, object)?)
+    i > 0 && symbol.section == SHN_UNDEF && symbol.name != b"_GLOBAL_OFFSET_TABLE_".as_slice()
+}
+
+/// Returns the need that the symbol `i` states, by a version list.
+#[tactic(auto, unfolding(crate::specs::Needs::need_of))]
+fn read_need(
+    alloc: Global,
+    versions: &VersionList,
+    i: u32,
+    symbol: SymbolRef,
+) -> Result<Need, AllocError>
+    ensures { IfOk result (λ need. need ≡ need_of versions.now i (owned_symbol symbol.entry)) }
+{
+    Ok(Need {
+        name: Name::from_slice(alloc, symbol.name)?,
+        symbol: i,
+        weak: symbol.binding == STB_WEAK,
+        crc: versions.version_of(symbol.name),
+    })
 }

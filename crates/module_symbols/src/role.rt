@@ -20,20 +20,6 @@ pub enum Role {
     Definition,
 }
 
-/// Returns the rest of a name after a prefix, if the name begins with it.
-#[inline(always)]
-fn after_prefix<'a>(prefix: &[u8], name: &'a [u8]) -> Option<&'a [u8]>
-    ensures { option_copied result ≡ after_prefix prefix.now name.now }
-{
-    // Most names differ from the prefix in their first byte, and are skipped at once.
-    if let (Some(first), Some(wanted)) = (name.first(), prefix.first()) {
-        if *first != *wanted {
-            return None;
-        }
-    }
-    name.strip_prefix(prefix)
-}
-
 /// Returns the name that a symbol states in a role.
 #[tactic(auto, unfolding(crate::specs::Roles::stated_name))]
 #[inline]
@@ -55,4 +41,18 @@ pub(crate) fn stated_name<'a>(role: Role, symbol: SymbolRef<'a>) -> Option<&'a [
             }
         }
     }
+}
+
+/// Returns the rest of a name after a prefix, if the name begins with it.
+#[inline(always)]
+fn after_prefix<'a>(prefix: &[u8], name: &'a [u8]) -> Option<&'a [u8]>
+    ensures { option_copied result ≡ after_prefix prefix.now name.now }
+{
+    // Most names differ from the prefix in their first byte, and are skipped at once.
+    if let (Some(first), Some(wanted)) = (name.first(), prefix.first()) {
+        if *first != *wanted {
+            return None;
+        }
+    }
+    name.strip_prefix(prefix)
 }

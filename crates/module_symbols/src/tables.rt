@@ -78,18 +78,6 @@ impl<'a> SymbolTables<'a> {
     }
 }
 
-/// Returns whether no symbol states an export.
-fn exports_nothing(object: &ObjectView) -> bool
-    ensures { IsTrue result → exports_of object.now ≡ [] }
-{
-    for i in 0..object.symbol_count() {
-        if stated_name(Role::Export, object.symbol(i)).is_some() {
-            return false;
-        }
-    }
-    true
-}
-
 /// Returns the tables of an object that exports something. Most modules export nothing, and need no
 /// tables.
 pub fn tables_of<'a>(
@@ -119,4 +107,16 @@ pub fn symbol_of<'a>(
         Some(i) => Some(object.symbol(i)),
         None => None,
     }
+}
+
+/// Returns whether no symbol states an export.
+fn exports_nothing(object: &ObjectView) -> bool
+    ensures { IsTrue result → exports_of object.now ≡ [] }
+{
+    for i in 0..object.symbol_count() {
+        if stated_name(Role::Export, object.symbol(i)).is_some() {
+            return false;
+        }
+    }
+    true
 }

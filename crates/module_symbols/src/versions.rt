@@ -31,114 +31,6 @@ pub(crate) struct Version<'a> {
 /// The versions in the order of the file.
 pub(crate) type Versions<'a> = List<Version<'a>>;
 
-/// The two sections of extended versions.
-#[derive(Clone, Copy)]
-struct Extended<'a> {
-    crcs: &'a [u8],
-    names: &'a [u8],
-}
-
-/// Returns the name of the entry `k`: the bytes before the NUL in its last 56 bytes.
-fn entry_name(bytes: &[u8], k: u32) -> Option<&[u8]>
-    requires { 64 * k + 64 ≤ length bytes.now }
-    ensures { option_copied result ≡ entry_name bytes.now k }
-{
-    let start = ENTRY * k as usize + 8;
-    first_string(&bytes[start..start + 56])
-}
-
-/// Returns whether the entries are invalid: the last isn't whole, or a name has no NUL.
-#[tactic(auto, unfolding(crate::specs::Versions::are_bad_entries))]
-fn are_bad_entries(bytes: &[u8]) -> bool
-    requires { length bytes.now ≤ file_limit }
-    ensures { result ≡ are_bad_entries bytes.now }
-{
-    if bytes.len() % ENTRY != 0 {
-        return true;
-    }
-    for k in 0..(bytes.len() / ENTRY) as u32 {
-        if entry_name(bytes, k).is_none() {
-            return true;
-        }
-    }
-    false
-}
-
-/// Returns the version list of the entries.
-#[tactic(auto, unfolding(crate::specs::Versions::entry_list))]
-fn entry_list<'a>(alloc: Global, bytes: &'a [u8]) -> Result<Versions<'a>, AllocError>
-    requires { length bytes.now ≤ file_limit }
-    ensures list { IfOk result (λ list. map version_entry list ≡ entry_list bytes.now) }
-    ensures few { IfOk result (λ list. length list ≤ file_limit) }
-{
-    let mut list = Versions::new(alloc);
-    for k in 0..(bytes.len() / ENTRY) as u32 {
-        if let Some(name) = entry_name(bytes, k) {
-            let number = le_u64_at(bytes, ENTRY * k as usize);
-            list.push(Version { name, number })?;
-        }
-    }
-    Ok(list)
-}
-
-/// Returns the number of NULs.
-fn nul_count(bytes: &[u8]) -> usize
-    ensures { result ≡ count_by (λ b. b == 0) bytes.now }
-{
-    bytes.iter().filter(|b| **b == 0).count()
-}
-
-/// Returns whether extended versions are invalid: the last number isn't whole, or there are more
-/// numbers than NULs.
-#[tactic(auto, unfolding(crate::specs::Versions::is_bad_extended))]
-fn is_bad_extended(crcs: &[u8], names: &[u8]) -> bool
-    ensures { result ≡ is_bad_extended crcs.now names.now }
-{
-    crcs.len() % NUMBER != 0 || nul_count(names) < crcs.len() / NUMBER
-}
-
-/// Returns the bytes after a name and its NUL.
-fn after_name<'a>(bytes: &'a [u8], name: &[u8]) -> &'a [u8]
-    requires { length name.now < length bytes.now }
-    ensures { result.now ≡ drop (length name.now + 1) bytes.now }
-{
-    &bytes[name.len() + 1..]
-}
-
-/// Returns the version list of the extended form.
-fn extended_list<'a>(
-    alloc: Global,
-    crcs: &[u8],
-    names: &'a [u8],
-) -> Result<Versions<'a>, AllocError>
-    requires { length crcs.now ≤ file_limit }
-    ensures list { IfOk result (λ list. map version_entry list ≡ extended_list crcs.now names.now) }
-    ensures few { IfOk result (λ list. length list ≤ file_limit) }
-{
-    let mut list = Versions::new(alloc);
-    let mut rest = names;
-    for k in 0..(crcs.len() / NUMBER) as u32 {
-        let Some(name) = first_string(rest) else {
-            return Ok(list);
-        };
-        let number = u64::from(le_u32_at(crcs, NUMBER * k as usize));
-        list.push(Version { name, number })?;
-        rest = after_name(rest, name);
-    }
-    Ok(list)
-}
-
-/// Returns the sections of extended versions, if both are in the file.
-#[tactic(auto, unfolding(crate::specs::Versions::extended_bytes))]
-fn extended_sections<'a>(object: &ObjectView<'a>) -> Option<Extended<'a>>
-    ensures bytes { option_map (λ x. (x.crcs.now, x.names.now)) result ≡ extended_bytes object.now }
-    ensures short { IfSome result (λ x. length x.crcs.now ≤ file_limit) }
-{
-    let crcs = named_bytes(object, b"__version_ext_crcs")?;
-    let names = named_bytes(object, b"__version_ext_names")?;
-    Some(Extended { crcs, names })
-}
-
 /// Returns the version list of a module.
 #[tactic(auto, unfolding(crate::specs::Versions::version_list))]
 pub(crate) fn version_list<'a>(
@@ -171,4 +63,112 @@ pub fn is_bad_list(object: &ObjectView) -> bool
             None => false,
         },
     }
+}
+
+/// Returns the sections of extended versions, if both are in the file.
+#[tactic(auto, unfolding(crate::specs::Versions::extended_bytes))]
+fn extended_sections<'a>(object: &ObjectView<'a>) -> Option<Extended<'a>>
+    ensures bytes { option_map (λ x. (x.crcs.now, x.names.now)) result ≡ extended_bytes object.now }
+    ensures short { IfSome result (λ x. length x.crcs.now ≤ file_limit) }
+{
+    let crcs = named_bytes(object, b"__version_ext_crcs")?;
+    let names = named_bytes(object, b"__version_ext_names")?;
+    Some(Extended { crcs, names })
+}
+
+/// Returns the version list of the extended form.
+fn extended_list<'a>(
+    alloc: Global,
+    crcs: &[u8],
+    names: &'a [u8],
+) -> Result<Versions<'a>, AllocError>
+    requires { length crcs.now ≤ file_limit }
+    ensures list { IfOk result (λ list. map version_entry list ≡ extended_list crcs.now names.now) }
+    ensures few { IfOk result (λ list. length list ≤ file_limit) }
+{
+    let mut list = Versions::new(alloc);
+    let mut rest = names;
+    for k in 0..(crcs.len() / NUMBER) as u32 {
+        let Some(name) = first_string(rest) else {
+            return Ok(list);
+        };
+        let number = u64::from(le_u32_at(crcs, NUMBER * k as usize));
+        list.push(Version { name, number })?;
+        rest = after_name(rest, name);
+    }
+    Ok(list)
+}
+
+/// Returns the version list of the entries.
+#[tactic(auto, unfolding(crate::specs::Versions::entry_list))]
+fn entry_list<'a>(alloc: Global, bytes: &'a [u8]) -> Result<Versions<'a>, AllocError>
+    requires { length bytes.now ≤ file_limit }
+    ensures list { IfOk result (λ list. map version_entry list ≡ entry_list bytes.now) }
+    ensures few { IfOk result (λ list. length list ≤ file_limit) }
+{
+    let mut list = Versions::new(alloc);
+    for k in 0..(bytes.len() / ENTRY) as u32 {
+        if let Some(name) = entry_name(bytes, k) {
+            let number = le_u64_at(bytes, ENTRY * k as usize);
+            list.push(Version { name, number })?;
+        }
+    }
+    Ok(list)
+}
+
+/// Returns whether extended versions are invalid: the last number isn't whole, or there are more
+/// numbers than NULs.
+#[tactic(auto, unfolding(crate::specs::Versions::is_bad_extended))]
+fn is_bad_extended(crcs: &[u8], names: &[u8]) -> bool
+    ensures { result ≡ is_bad_extended crcs.now names.now }
+{
+    crcs.len() % NUMBER != 0 || nul_count(names) < crcs.len() / NUMBER
+}
+
+/// Returns whether the entries are invalid: the last isn't whole, or a name has no NUL.
+#[tactic(auto, unfolding(crate::specs::Versions::are_bad_entries))]
+fn are_bad_entries(bytes: &[u8]) -> bool
+    requires { length bytes.now ≤ file_limit }
+    ensures { result ≡ are_bad_entries bytes.now }
+{
+    if bytes.len() % ENTRY != 0 {
+        return true;
+    }
+    for k in 0..(bytes.len() / ENTRY) as u32 {
+        if entry_name(bytes, k).is_none() {
+            return true;
+        }
+    }
+    false
+}
+
+/// The two sections of extended versions.
+#[derive(Clone, Copy)]
+struct Extended<'a> {
+    crcs: &'a [u8],
+    names: &'a [u8],
+}
+
+/// Returns the bytes after a name and its NUL.
+fn after_name<'a>(bytes: &'a [u8], name: &[u8]) -> &'a [u8]
+    requires { length name.now < length bytes.now }
+    ensures { result.now ≡ drop (length name.now + 1) bytes.now }
+{
+    &bytes[name.len() + 1..]
+}
+
+/// Returns the name of the entry `k`: the bytes before the NUL in its last 56 bytes.
+fn entry_name(bytes: &[u8], k: u32) -> Option<&[u8]>
+    requires { 64 * k + 64 ≤ length bytes.now }
+    ensures { option_copied result ≡ entry_name bytes.now k }
+{
+    let start = ENTRY * k as usize + 8;
+    first_string(&bytes[start..start + 56])
+}
+
+/// Returns the number of NULs.
+fn nul_count(bytes: &[u8]) -> usize
+    ensures { result ≡ count_by (λ b. b == 0) bytes.now }
+{
+    bytes.iter().filter(|b| **b == 0).count()
 }

@@ -8,9 +8,6 @@ use std::alloc::{AllocError, Global};
 use std::hash::{BuildHasherDefault, DefaultHasher};
 use std::marker::Model;
 
-/// Vectors of values by names, which are hashed by SipHash.
-type Entries<'a, T> = IndexMap<&'a [u8], Vec<T>, BuildHasherDefault<DefaultHasher>>;
-
 /// Values in groups, each under a name, in the order in which they were put in. The names aren't
 /// copied, and may come from any file. Contracts see each name with the list of its values.
 #[derive(Drop)]
@@ -58,6 +55,9 @@ impl<'a, T: Drop> NameGroups<'a, T> {
         }
     }
 }
+
+/// Vectors of values by names, which are hashed by SipHash.
+type Entries<'a, T> = IndexMap<&'a [u8], Vec<T>, BuildHasherDefault<DefaultHasher>>;
 
 fn push_value<'a, T: Drop>(
     alloc: Global,

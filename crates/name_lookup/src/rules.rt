@@ -22,20 +22,6 @@ pub(crate) fn installed_names(alloc: Global, rules: &Rules) -> Result<NameSet<'_
     Ok(names)
 }
 
-/// Returns the module that the rule has a command for loading.
-fn installed_name(rule: &Rule) -> Option<&[u8]>
-    ensures { option_map (λ name. name.now) result ≡ installed_name rule.now }
-{
-    match rule {
-        Rule::Install { name, .. } => Some(name.as_bytes()),
-        Rule::Alias { .. }
-        | Rule::Blacklist { .. }
-        | Rule::Options { .. }
-        | Rule::Remove { .. }
-        | Rule::Softdep { .. } => None,
-    }
-}
-
 /// Returns the names that blacklist rules have.
 pub(crate) fn blacklisted_names(alloc: Global, rules: &Rules) -> Result<NameSet<'_>, AllocError>
     ensures { IfOk result
@@ -48,6 +34,20 @@ pub(crate) fn blacklisted_names(alloc: Global, rules: &Rules) -> Result<NameSet<
         }
     }
     Ok(names)
+}
+
+/// Returns the module that the rule has a command for loading.
+fn installed_name(rule: &Rule) -> Option<&[u8]>
+    ensures { option_map (λ name. name.now) result ≡ installed_name rule.now }
+{
+    match rule {
+        Rule::Install { name, .. } => Some(name.as_bytes()),
+        Rule::Alias { .. }
+        | Rule::Blacklist { .. }
+        | Rule::Options { .. }
+        | Rule::Remove { .. }
+        | Rule::Softdep { .. } => None,
+    }
 }
 
 /// Returns the module that the rule blacklists.

@@ -18,12 +18,17 @@ pub(crate) struct WildAlias<'a> {
     ghost plain_front: { list_any is_wildcard front.now ≡ false },
 }
 
-/// Returns whether a byte of a pattern is a wildcard or opens a set. Every other byte is itself.
-/// glob(7).
-fn is_wildcard(byte: u8) -> bool
-    ensures { result ≡ is_wildcard byte }
-{
-    byte == b'*' || byte == b'?' || byte == b'['
+impl WildAlias<'_> {
+    /// Returns whether the pattern matches a name. The plain bytes that it begins with are compared
+    /// first.
+    pub(crate) fn matches(&self, name: &[u8]) -> bool
+        ensures { result ≡ is_match (self.now.front.now ++ self.now.rest.now) name.now }
+    {
+        match name.strip_prefix(self.front) {
+            Some(tail) => matches(self.rest, tail),
+            None => false,
+        }
+    }
 }
 
 /// Splits a pattern at its first wildcard, if it has one: what comes before it, and the pattern
@@ -40,15 +45,10 @@ pub(crate) fn split_at_wildcard(pattern: &[u8]) -> Option<(&[u8], &[u8])>
     None
 }
 
-impl WildAlias<'_> {
-    /// Returns whether the pattern matches a name. The plain bytes that it begins with are compared
-    /// first.
-    pub(crate) fn matches(&self, name: &[u8]) -> bool
-        ensures { result ≡ is_match (self.now.front.now ++ self.now.rest.now) name.now }
-    {
-        match name.strip_prefix(self.front) {
-            Some(tail) => matches(self.rest, tail),
-            None => false,
-        }
-    }
+/// Returns whether a byte of a pattern is a wildcard or opens a set. Every other byte is itself.
+/// glob(7).
+fn is_wildcard(byte: u8) -> bool
+    ensures { result ≡ is_wildcard byte }
+{
+    byte == b'*' || byte == b'?' || byte == b'['
 }

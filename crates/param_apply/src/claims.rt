@@ -25,23 +25,6 @@ pub(crate) struct Value {
     pub(crate) width: usize,
 }
 
-/// Copies the name of a parameter.
-fn name_of(alloc: Global, param: &ParamRef) -> Result<Name, AllocError>
-    ensures { IfOk result (λ name. name ≡ param.now.name) }
-{
-    Name::from_slice(alloc, param.name)
-}
-
-/// Returns the fault of a misplaced value, or `Memory`.
-fn bad_place(alloc: Global, param: &ParamRef) -> ParamFault
-    ensures { (result ≡ Memory) ⊎ (result ≡ BadParamPlace param.now.name) }
-{
-    match name_of(alloc, param) {
-        Ok(name) => ParamFault::BadParamPlace { name },
-        Err(_) => ParamFault::Memory,
-    }
-}
-
 /// Returns the value that a word states for its parameter.
 ///
 /// # Errors
@@ -143,5 +126,22 @@ impl Claims {
         ensures { result ≡ count_by (λ b. b) self.now.named.items }
     {
         self.named.iter().filter(|named| **named).count()
+    }
+}
+
+/// Copies the name of a parameter.
+fn name_of(alloc: Global, param: &ParamRef) -> Result<Name, AllocError>
+    ensures { IfOk result (λ name. name ≡ param.now.name) }
+{
+    Name::from_slice(alloc, param.name)
+}
+
+/// Returns the fault of a misplaced value, or `Memory`.
+fn bad_place(alloc: Global, param: &ParamRef) -> ParamFault
+    ensures { (result ≡ Memory) ⊎ (result ≡ BadParamPlace param.now.name) }
+{
+    match name_of(alloc, param) {
+        Ok(name) => ParamFault::BadParamPlace { name },
+        Err(_) => ParamFault::Memory,
     }
 }

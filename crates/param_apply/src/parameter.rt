@@ -34,27 +34,37 @@ impl<'a> Model for ParamRef<'a> {
     ghost view = { λ p. record { name = p.name.now; at = p.at; kind = p.kind } };
 }
 
-/// Returns the bytes of the section `.modinfo`.
-#[tactic(auto, unfolding(module_symbols::specs::Contents::modinfo_bytes, module_symbols::specs::Contents::named_bytes, module_symbols::specs::Contents::named_section))]
-fn texts_section(object: &Object) -> &[u8]
-    ensures { result.now ≡ modinfo_bytes object.now }
-{
-    match object.section_named(b".modinfo") {
-        Some(i) => object.section_bytes(i),
-        None => &[],
-    }
+/// The parameters of a module, with a table of their names.
+#[derive(Drop)]
+pub(crate) struct Parameters<'a> {
+    pub(crate) list: Vec<ParamRef<'a>>,
+    names: OwnedNameTable,
+    ghost named: { IsTableOf names (map (λ p. Some (underscored p.name)) list.items) },
 }
 
-/// Returns the place that a table has for a name, with each `-` replaced by `_`.
-fn place_named(
-    alloc: Global,
-    table: &OwnedNameTable,
-    name: &[u8],
-) -> Result<Option<u32>, AllocError>
-    ensures { IfOk result (λ place. place ≡ place_of table.now (underscored name.now)) }
-{
-    let name = underscored(alloc, name)?;
-    Ok(table.place(name.as_bytes()))
+impl<'a> Parameters<'a> {
+    /// Returns the parameters of an object, by the entries of its table.
+    pub(crate) fn new(
+        alloc: Global,
+        object: &Object,
+        entries: &[EntryRef<'a>],
+    ) -> Result<Parameters<'a>, AllocError>
+        ensures { IfOk result
+            (λ p. p.list.items ≡ map (parameter (type_texts object.now)) entries.now) }
+    {
+        let types = Types::new(alloc, object)?;
+        let list = params_of(alloc, &types, entries)?;
+        let names = param_names(alloc, &list)?;
+        Ok(Parameters { list, names })
+    }
+
+    /// Returns the number of the parameter of a name, the first of several.
+    pub(crate) fn number_named(&self, alloc: Global, name: &[u8]) -> Result<Option<u32>, AllocError>
+        ensures { IfOk result (λ number. number ≡ number_named self.now.list.items name.now) }
+    {
+        let number = place_named(alloc, &self.names, name)?;
+        Ok(number)
+    }
 }
 
 /// The texts that state the types of parameters, with a table of the names in them.
@@ -63,24 +73,6 @@ struct Types {
     texts: Texts,
     names: OwnedNameTable,
     ghost named: { IsTableOf names (map (λ text. Some (underscored (text_name text))) texts) },
-}
-
-/// Returns the table of the names in texts.
-fn text_names(alloc: Global, texts: &[Blob]) -> Result<OwnedNameTable, AllocError>
-    ensures { IfOk result
-        (λ t. IsTableOf t (map (λ text. Some (underscored (text_name text))) texts.now)) }
-{
-    // No file has so many texts.
-    if u32::MAX as usize <= texts.len() {
-        return Err(AllocError);
-    }
-    let mut names = OwnedNameTable::new(alloc);
-    for text in texts {
-        let (name, _) = split_at_byte(text.as_bytes(), b':');
-        let name = underscored(alloc, name)?;
-        names.push(alloc, Some(name.as_bytes()))?;
-    }
-    Ok(names)
 }
 
 impl Types {
@@ -149,35 +141,43 @@ fn param_names(alloc: Global, list: &[ParamRef]) -> Result<OwnedNameTable, Alloc
     Ok(names)
 }
 
-/// The parameters of a module, with a table of their names.
-#[derive(Drop)]
-pub(crate) struct Parameters<'a> {
-    pub(crate) list: Vec<ParamRef<'a>>,
-    names: OwnedNameTable,
-    ghost named: { IsTableOf names (map (λ p. Some (underscored p.name)) list.items) },
+/// Returns the place that a table has for a name, with each `-` replaced by `_`.
+fn place_named(
+    alloc: Global,
+    table: &OwnedNameTable,
+    name: &[u8],
+) -> Result<Option<u32>, AllocError>
+    ensures { IfOk result (λ place. place ≡ place_of table.now (underscored name.now)) }
+{
+    let name = underscored(alloc, name)?;
+    Ok(table.place(name.as_bytes()))
 }
 
-impl<'a> Parameters<'a> {
-    /// Returns the parameters of an object, by the entries of its table.
-    pub(crate) fn new(
-        alloc: Global,
-        object: &Object,
-        entries: &[EntryRef<'a>],
-    ) -> Result<Parameters<'a>, AllocError>
-        ensures { IfOk result
-            (λ p. p.list.items ≡ map (parameter (type_texts object.now)) entries.now) }
-    {
-        let types = Types::new(alloc, object)?;
-        let list = params_of(alloc, &types, entries)?;
-        let names = param_names(alloc, &list)?;
-        Ok(Parameters { list, names })
+/// Returns the bytes of the section `.modinfo`.
+#[tactic(auto, unfolding(module_symbols::specs::Contents::modinfo_bytes, module_symbols::specs::Contents::named_bytes, module_symbols::specs::Contents::named_section))]
+fn texts_section(object: &Object) -> &[u8]
+    ensures { result.now ≡ modinfo_bytes object.now }
+{
+    match object.section_named(b".modinfo") {
+        Some(i) => object.section_bytes(i),
+        None => &[],
     }
+}
 
-    /// Returns the number of the parameter of a name, the first of several.
-    pub(crate) fn number_named(&self, alloc: Global, name: &[u8]) -> Result<Option<u32>, AllocError>
-        ensures { IfOk result (λ number. number ≡ number_named self.now.list.items name.now) }
-    {
-        let number = place_named(alloc, &self.names, name)?;
-        Ok(number)
+/// Returns the table of the names in texts.
+fn text_names(alloc: Global, texts: &[Blob]) -> Result<OwnedNameTable, AllocError>
+    ensures { IfOk result
+        (λ t. IsTableOf t (map (λ text. Some (underscored (text_name text))) texts.now)) }
+{
+    // No file has so many texts.
+    if u32::MAX as usize <= texts.len() {
+        return Err(AllocError);
     }
+    let mut names = OwnedNameTable::new(alloc);
+    for text in texts {
+        let (name, _) = split_at_byte(text.as_bytes(), b':');
+        let name = underscored(alloc, name)?;
+        names.push(alloc, Some(name.as_bytes()))?;
+    }
+    Ok(names)
 }

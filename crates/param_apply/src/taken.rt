@@ -28,19 +28,6 @@ pub(crate) fn mark(taken: &mut Vec<bool>, at: u128, size: u64)
     }
 }
 
-/// Marks the bytes that a relocation changes.
-fn mark_place(taken: &mut Vec<bool>, layout: &Layout, place: &RelaPlace)
-    requires { place.now.target < length layout.now }
-    ensures same { length taken.new.items ≡ length taken.old.items }
-    ensures marked { (o : FileObject) → layout.now ≡ offsets o.sections → (x : ℕ)
-        → x < length taken.old.items
-        → get_or taken.new.items x false
-        ≡ (get_or taken.old.items x false || is_relocated_by o x place.now) }
-{
-    let at = u128::from(layout.offset(place.target)) + u128::from(place.offset);
-    mark(taken, at, u64::from(width(place.kind).unwrap_or(0)));
-}
-
 /// Returns for each byte of an image of `len` bytes whether it is reserved.
 #[tactic(auto, unfolding(crate::specs::Places::is_reserved))]
 pub(crate) fn reserved(
@@ -84,4 +71,17 @@ pub(crate) fn are_free(taken: &[bool], at: u64, size: usize) -> bool
         }
     }
     true
+}
+
+/// Marks the bytes that a relocation changes.
+fn mark_place(taken: &mut Vec<bool>, layout: &Layout, place: &RelaPlace)
+    requires { place.now.target < length layout.now }
+    ensures same { length taken.new.items ≡ length taken.old.items }
+    ensures marked { (o : FileObject) → layout.now ≡ offsets o.sections → (x : ℕ)
+        → x < length taken.old.items
+        → get_or taken.new.items x false
+        ≡ (get_or taken.old.items x false || is_relocated_by o x place.now) }
+{
+    let at = u128::from(layout.offset(place.target)) + u128::from(place.offset);
+    mark(taken, at, u64::from(width(place.kind).unwrap_or(0)));
 }

@@ -23,6 +23,45 @@ use image_layout::Layout;
 use raw_image::Image;
 use std::alloc::{AllocError, Global};
 
+/// Returns a copy of an image with the values that words state.
+///
+/// # Errors
+///
+/// The fault of the first bad word, or `Memory`.
+pub(crate) fn written(
+    alloc: Global,
+    object: &Object,
+    layout: &Layout,
+    table: ParamTable,
+    image: &[u8],
+    params: &[ParamRef],
+    settings: &[SettingRef],
+) -> Result<Params, ParamFault>
+    requires layout { layout.now ≡ offsets object.now.sections }
+    requires table { table ≡ table_of object.now }
+    requires few { length params.now < 2 ^ 32 }
+    requires numbers { All (λ s. s.number < length params.now) settings.now }
+    ensures image { IfOk result
+        (λ p. p.image ≡ with_pieces image.now (map (piece params.now) settings.now)) }
+    ensures count { IfOk result (λ p. p.count ≡ named_count params.now settings.now) }
+    ensures passed { OnOk result
+        (words_fault object.now params.now (length image.now) settings.now ≡ None) }
+    ensures fault { IfErr result
+        (λ e. (e ≡ Memory)
+        ⊎ (words_fault object.now params.now (length image.now) settings.now ≡ Some e)) }
+{
+    let mut copy = copied(alloc, image)?;
+    let taken = reserved(alloc, object, layout, table, image.len())?;
+    let mut claims = Claims::new(alloc, taken, params.len())?;
+    for setting in settings {
+        write(alloc, &mut copy, &mut claims, params, setting)?;
+    }
+    Ok(Params {
+        image: copy,
+        count: claims.count() as u32,
+    })
+}
+
 /// Copies an image.
 fn copied(alloc: Global, bytes: &[u8]) -> Result<Image, AllocError>
     ensures { IfOk result (λ image. image ≡ bytes.now) }
@@ -72,43 +111,4 @@ fn write(
     let bytes = value.number.to_le_bytes();
     image.copy_in(param.at as usize, &bytes[..value.width]);
     Ok(())
-}
-
-/// Returns a copy of an image with the values that words state.
-///
-/// # Errors
-///
-/// The fault of the first bad word, or `Memory`.
-pub(crate) fn written(
-    alloc: Global,
-    object: &Object,
-    layout: &Layout,
-    table: ParamTable,
-    image: &[u8],
-    params: &[ParamRef],
-    settings: &[SettingRef],
-) -> Result<Params, ParamFault>
-    requires layout { layout.now ≡ offsets object.now.sections }
-    requires table { table ≡ table_of object.now }
-    requires few { length params.now < 2 ^ 32 }
-    requires numbers { All (λ s. s.number < length params.now) settings.now }
-    ensures image { IfOk result
-        (λ p. p.image ≡ with_pieces image.now (map (piece params.now) settings.now)) }
-    ensures count { IfOk result (λ p. p.count ≡ named_count params.now settings.now) }
-    ensures passed { OnOk result
-        (words_fault object.now params.now (length image.now) settings.now ≡ None) }
-    ensures fault { IfErr result
-        (λ e. (e ≡ Memory)
-        ⊎ (words_fault object.now params.now (length image.now) settings.now ≡ Some e)) }
-{
-    let mut copy = copied(alloc, image)?;
-    let taken = reserved(alloc, object, layout, table, image.len())?;
-    let mut claims = Claims::new(alloc, taken, params.len())?;
-    for setting in settings {
-        write(alloc, &mut copy, &mut claims, params, setting)?;
-    }
-    Ok(Params {
-        image: copy,
-        count: claims.count() as u32,
-    })
 }

@@ -50,51 +50,6 @@ pub(crate) fn compared_paths<'a>(
     Ok(ComparedPaths { planned, there })
 }
 
-/// Returns the paths of the marked modules.
-fn marked_paths<'a>(
-    alloc: Global,
-    planner: &Planner<'a>,
-    marks: &[bool],
-) -> Result<NameSet<'a>, AllocError>
-    requires { length marks.now ≡ length (modules_spec (sources_of planner.now)) }
-    ensures { IfOk result
-        (λ paths. (path : List ℕ)
-        → is_among paths path
-        ≡ is_path_of (modules_spec (sources_of planner.now)) (marked marks.now) path) }
-{
-    let places = marked(alloc, marks)?;
-    let paths = paths_of(alloc, planner.modules(), &places)?;
-    Ok(paths)
-}
-
-/// Returns the paths of some modules.
-fn paths_of<'a>(
-    alloc: Global,
-    modules: &Modules<'a>,
-    places: &[usize],
-) -> Result<NameSet<'a>, AllocError>
-    requires { All (λ y. y < length modules.now) places.now }
-    ensures { IfOk result
-        (λ paths. (path : List ℕ) → is_among paths path ≡ is_path_of modules.now places.now path) }
-{
-    let mut paths = NameSet::new(alloc);
-    for place in places {
-        paths.insert(modules.path(*place))?;
-    }
-    Ok(paths)
-}
-
-/// Returns the paths of loaded modules, and the kernel's.
-fn standing_paths<'a>(alloc: Global, planner: &Planner<'a>) -> Result<NameSet<'a>, AllocError>
-    ensures { IfOk result
-        (λ paths. (path : List ℕ) → is_among paths path ≡ stands (sources_of planner.now) path) }
-{
-    let places = planner.modules().places_of(alloc, planner.loaded())?;
-    let mut paths = paths_of(alloc, planner.modules(), &places)?;
-    paths.insert(b"vmlinux".as_slice())?;
-    Ok(paths)
-}
-
 /// Tests that no line is on a need of a planned module.
 pub(crate) fn check_needs(
     alloc: Global,
@@ -142,47 +97,32 @@ pub(crate) fn check_unmet(
     Ok(())
 }
 
-/// Returns whether a line is an obstacle of a kind.
-fn is_obstacle(kind: LineKind, line: &Unbound, planned: &NameSet<'_>, there: &NameSet<'_>) -> bool
-    ensures { result ≡ is_obstacle kind (is_among planned.now) (is_among there.now) line.now }
+/// Returns the paths of the marked modules.
+fn marked_paths<'a>(
+    alloc: Global,
+    planner: &Planner<'a>,
+    marks: &[bool],
+) -> Result<NameSet<'a>, AllocError>
+    requires { length marks.now ≡ length (modules_spec (sources_of planner.now)) }
+    ensures { IfOk result
+        (λ paths. (path : List ℕ)
+        → is_among paths path
+        ≡ is_path_of (modules_spec (sources_of planner.now)) (marked marks.now) path) }
 {
-    match (kind, line) {
-        (LineKind::Missing, Unbound::Missing { path, .. })
-        | (LineKind::Gpl, Unbound::Gpl { path, .. })
-        | (LineKind::Version, Unbound::Version { path, .. })
-        | (LineKind::Namespace, Unbound::Namespace { path, .. }) => {
-            planned.contains(path.as_bytes())
-        }
-        (LineKind::Double, Unbound::Double { first, second, .. }) => {
-            collides(planned, there, first.as_bytes(), second.as_bytes())
-        }
-        (
-            LineKind::Missing
-            | LineKind::Gpl
-            | LineKind::Version
-            | LineKind::Namespace
-            | LineKind::Double,
-            Unbound::Missing { .. }
-            | Unbound::Gpl { .. }
-            | Unbound::Version { .. }
-            | Unbound::Namespace { .. }
-            | Unbound::Double { .. },
-        ) => false,
-    }
+    let places = marked(alloc, marks)?;
+    let paths = paths_of(alloc, planner.modules(), &places)?;
+    Ok(paths)
 }
 
-/// Returns whether one of the paths of a double line is planned, and both are planned or loaded
-/// before.
-fn collides(planned: &NameSet<'_>, there: &NameSet<'_>, first: &[u8], second: &[u8]) -> bool
-    ensures { (symbol : List ℕ) → result
-        ≡ collides (λ path. is_among planned.now path || is_among there.now path)
-        (is_among planned.now) (Unbound.Double symbol first.now second.now) }
+/// Returns the paths of loaded modules, and the kernel's.
+fn standing_paths<'a>(alloc: Global, planner: &Planner<'a>) -> Result<NameSet<'a>, AllocError>
+    ensures { IfOk result
+        (λ paths. (path : List ℕ) → is_among paths path ≡ stands (sources_of planner.now) path) }
 {
-    let has_first = planned.contains(first);
-    let has_second = planned.contains(second);
-    (has_first || has_second)
-        && (has_first || there.contains(first))
-        && (has_second || there.contains(second))
+    let places = planner.modules().places_of(alloc, planner.loaded())?;
+    let mut paths = paths_of(alloc, planner.modules(), &places)?;
+    paths.insert(b"vmlinux".as_slice())?;
+    Ok(paths)
 }
 
 /// Makes an obstacle of a line.
@@ -245,6 +185,52 @@ fn as_obstacle(alloc: Global, line: &Unbound) -> Result<Obstacle, AllocError>
     }
 }
 
+/// Returns whether a line is an obstacle of a kind.
+fn is_obstacle(kind: LineKind, line: &Unbound, planned: &NameSet<'_>, there: &NameSet<'_>) -> bool
+    ensures { result ≡ is_obstacle kind (is_among planned.now) (is_among there.now) line.now }
+{
+    match (kind, line) {
+        (LineKind::Missing, Unbound::Missing { path, .. })
+        | (LineKind::Gpl, Unbound::Gpl { path, .. })
+        | (LineKind::Version, Unbound::Version { path, .. })
+        | (LineKind::Namespace, Unbound::Namespace { path, .. }) => {
+            planned.contains(path.as_bytes())
+        }
+        (LineKind::Double, Unbound::Double { first, second, .. }) => {
+            collides(planned, there, first.as_bytes(), second.as_bytes())
+        }
+        (
+            LineKind::Missing
+            | LineKind::Gpl
+            | LineKind::Version
+            | LineKind::Namespace
+            | LineKind::Double,
+            Unbound::Missing { .. }
+            | Unbound::Gpl { .. }
+            | Unbound::Version { .. }
+            | Unbound::Namespace { .. }
+            | Unbound::Double { .. },
+        ) => false,
+    }
+}
+
+/// Returns the paths of some modules.
+fn paths_of<'a>(
+    alloc: Global,
+    modules: &Modules<'a>,
+    places: &[usize],
+) -> Result<NameSet<'a>, AllocError>
+    requires { All (λ y. y < length modules.now) places.now }
+    ensures { IfOk result
+        (λ paths. (path : List ℕ) → is_among paths path ≡ is_path_of modules.now places.now path) }
+{
+    let mut paths = NameSet::new(alloc);
+    for place in places {
+        paths.insert(modules.path(*place))?;
+    }
+    Ok(paths)
+}
+
 /// Copies a path and a symbol.
 fn need_copy(alloc: Global, path: &PathText, symbol: &Name) -> Result<(PathText, Name), AllocError>
     ensures path { IfOk result (λ copies. copies.0 ≡ path.now) }
@@ -267,6 +253,20 @@ fn pair_copy(
 {
     let (path, symbol) = need_copy(alloc, path, symbol)?;
     Ok((path, symbol, path_copy(alloc, other)?))
+}
+
+/// Returns whether one of the paths of a double line is planned, and both are planned or loaded
+/// before.
+fn collides(planned: &NameSet<'_>, there: &NameSet<'_>, first: &[u8], second: &[u8]) -> bool
+    ensures { (symbol : List ℕ) → result
+        ≡ collides (λ path. is_among planned.now path || is_among there.now path)
+        (is_among planned.now) (Unbound.Double symbol first.now second.now) }
+{
+    let has_first = planned.contains(first);
+    let has_second = planned.contains(second);
+    (has_first || has_second)
+        && (has_first || there.contains(first))
+        && (has_second || there.contains(second))
 }
 
 fn path_copy(alloc: Global, path: &PathText) -> Result<PathText, AllocError>

@@ -23,40 +23,33 @@ use plan_order::GroupedOrder;
 use planned_modules::{Planner, RuleTable, chosen_command};
 use std::alloc::{AllocError, Global};
 
-/// Returns the parameters that rules have for the module of this name.
-fn rule_texts<'a>(
+/// Makes the steps of requested names, whose groups end at some places of an order, and then the
+/// steps of the rest of the order.
+pub(crate) fn all_steps(
     alloc: Global,
-    rules: &'a RuleTable<'_>,
-    name: &[u8],
-) -> Result<Vec<&'a [u8]>, AllocError>
-    ensures { IfOk result
-        (λ texts. byte_texts texts.items ≡ flat_map (rule_options name.now) rules.now) }
+    planner: &Planner<'_>,
+    request: &Request,
+    founds: &[Found],
+    plan: &GroupedOrder,
+) -> Result<PlanSteps, AllocError>
+    requires long { length plan.now.ends.items ≡ length founds.now }
+    requires ends { RisingEnds plan.now.ends.items (length plan.now.order.items) }
+    requires order { All (λ y. y < length (modules (sources_of planner.now)))
+        plan.now.order.items }
+    requires founds { founds.now ≡ found_for (sources_of planner.now) request.now }
+    ensures { IfOk result (λ steps. steps ≡ steps_by (sources_of planner.now) request.now [] 0
+        founds.now plan.now.ends.items plan.now.order.items) }
 {
-    let mut texts = Vec::new(alloc);
-    let own = rules.on(name);
-    for rule in own {
-        push_text(&mut texts, *rule, name)?;
-    }
-    Ok(texts)
-}
-
-fn push_text<'a>(texts: &mut Vec<&'a [u8]>, rule: &'a Rule, wanted: &[u8]) -> Result<(), AllocError>
-    ensures { OnOk result
-        (byte_texts texts.new.items
-        ≡ byte_texts texts.old.items ++ rule_options wanted.now rule.now) }
-{
-    match rule {
-        Rule::Options { name, text } if name.as_bytes() == wanted => {
-            texts.push(text.as_bytes())?;
-            Ok(())
-        }
-        Rule::Options { .. }
-        | Rule::Alias { .. }
-        | Rule::Blacklist { .. }
-        | Rule::Install { .. }
-        | Rule::Remove { .. }
-        | Rule::Softdep { .. } => Ok(()),
-    }
+    let members = member_names(alloc, founds)?;
+    let stepping = Stepping {
+        alloc,
+        planner,
+        request,
+        members,
+    };
+    let mut steps = PlanSteps::new(alloc);
+    stepping.push_groups(&mut steps, founds, plan)?;
+    Ok(steps)
 }
 
 /// What the steps of a request are made from.
@@ -222,6 +215,23 @@ impl Stepping<'_> {
     }
 }
 
+/// Returns the parameters that rules have for the module of this name.
+fn rule_texts<'a>(
+    alloc: Global,
+    rules: &'a RuleTable<'_>,
+    name: &[u8],
+) -> Result<Vec<&'a [u8]>, AllocError>
+    ensures { IfOk result
+        (λ texts. byte_texts texts.items ≡ flat_map (rule_options name.now) rules.now) }
+{
+    let mut texts = Vec::new(alloc);
+    let own = rules.on(name);
+    for rule in own {
+        push_text(&mut texts, *rule, name)?;
+    }
+    Ok(texts)
+}
+
 /// Makes the step of a command.
 fn command_step(alloc: Global, name: &[u8], command: &[u8]) -> Result<PlanStep, AllocError>
     ensures { IfOk result (λ step. step ≡ PlanStep.Install name.now command.now) }
@@ -232,31 +242,21 @@ fn command_step(alloc: Global, name: &[u8], command: &[u8]) -> Result<PlanStep, 
     })
 }
 
-/// Makes the steps of requested names, whose groups end at some places of an order, and then the
-/// steps of the rest of the order.
-pub(crate) fn all_steps(
-    alloc: Global,
-    planner: &Planner<'_>,
-    request: &Request,
-    founds: &[Found],
-    plan: &GroupedOrder,
-) -> Result<PlanSteps, AllocError>
-    requires long { length plan.now.ends.items ≡ length founds.now }
-    requires ends { RisingEnds plan.now.ends.items (length plan.now.order.items) }
-    requires order { All (λ y. y < length (modules (sources_of planner.now)))
-        plan.now.order.items }
-    requires founds { founds.now ≡ found_for (sources_of planner.now) request.now }
-    ensures { IfOk result (λ steps. steps ≡ steps_by (sources_of planner.now) request.now [] 0
-        founds.now plan.now.ends.items plan.now.order.items) }
+fn push_text<'a>(texts: &mut Vec<&'a [u8]>, rule: &'a Rule, wanted: &[u8]) -> Result<(), AllocError>
+    ensures { OnOk result
+        (byte_texts texts.new.items
+        ≡ byte_texts texts.old.items ++ rule_options wanted.now rule.now) }
 {
-    let members = member_names(alloc, founds)?;
-    let stepping = Stepping {
-        alloc,
-        planner,
-        request,
-        members,
-    };
-    let mut steps = PlanSteps::new(alloc);
-    stepping.push_groups(&mut steps, founds, plan)?;
-    Ok(steps)
+    match rule {
+        Rule::Options { name, text } if name.as_bytes() == wanted => {
+            texts.push(text.as_bytes())?;
+            Ok(())
+        }
+        Rule::Options { .. }
+        | Rule::Alias { .. }
+        | Rule::Blacklist { .. }
+        | Rule::Install { .. }
+        | Rule::Remove { .. }
+        | Rule::Softdep { .. } => Ok(()),
+    }
 }

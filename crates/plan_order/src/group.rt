@@ -27,12 +27,13 @@ pub(crate) fn order_among(
     at_places(alloc, members, &order)
 }
 
-// Returns the items at some places.
-fn at_places(alloc: Global, items: &[usize], places: &[usize]) -> Result<Vec<usize>, AllocError>
-    requires { All (λ i. i < length items.now) places.now }
-    ensures { IfOk result (λ found. found.items ≡ map (slice_index items.now) places.now) }
+/// Lists some items in rising order, each once.
+pub(crate) fn rising(alloc: Global, items: &[usize]) -> Result<Vec<usize>, AllocError>
+    ensures rises { IfOk result (λ sorted. Rises sorted.items) }
+    ensures items { IfOk result (λ sorted. (y : ℕ) → has sorted.items y ≡ has items.now y) }
 {
-    places.iter().map(|i| items[*i]).collect(alloc)
+    let sorted = sorted_set(alloc, items)?;
+    sorted.iter().copied().collect(alloc)
 }
 
 // Finds for each member the places, among the members, of the members that it goes to.
@@ -52,6 +53,25 @@ fn lists_among(
         inner.push(places_of(alloc, members, &lists[*member])?)?;
     }
     Ok(inner)
+}
+
+// Returns the items at some places.
+fn at_places(alloc: Global, items: &[usize], places: &[usize]) -> Result<Vec<usize>, AllocError>
+    requires { All (λ i. i < length items.now) places.now }
+    ensures { IfOk result (λ found. found.items ≡ map (slice_index items.now) places.now) }
+{
+    places.iter().map(|i| items[*i]).collect(alloc)
+}
+
+fn sorted_set(alloc: Global, items: &[usize]) -> Result<BTreeSet<usize>, AllocError>
+    ensures rises { IfOk result (λ sorted. Rises sorted.keys) }
+    ensures items { IfOk result (λ sorted. (y : ℕ) → has sorted.keys y ≡ has items.now y) }
+{
+    let mut sorted = BTreeSet::new(alloc);
+    for item in items {
+        sorted.insert(*item)?;
+    }
+    Ok(sorted)
 }
 
 // Finds the places, among the members, of the items that are members.
@@ -77,24 +97,4 @@ fn place_of(members: &[usize], item: usize) -> Option<usize>
     ensures { IsPlaceIn members.now item result }
 {
     members.binary_search(&item).ok()
-}
-
-/// Lists some items in rising order, each once.
-pub(crate) fn rising(alloc: Global, items: &[usize]) -> Result<Vec<usize>, AllocError>
-    ensures rises { IfOk result (λ sorted. Rises sorted.items) }
-    ensures items { IfOk result (λ sorted. (y : ℕ) → has sorted.items y ≡ has items.now y) }
-{
-    let sorted = sorted_set(alloc, items)?;
-    sorted.iter().copied().collect(alloc)
-}
-
-fn sorted_set(alloc: Global, items: &[usize]) -> Result<BTreeSet<usize>, AllocError>
-    ensures rises { IfOk result (λ sorted. Rises sorted.keys) }
-    ensures items { IfOk result (λ sorted. (y : ℕ) → has sorted.keys y ≡ has items.now y) }
-{
-    let mut sorted = BTreeSet::new(alloc);
-    for item in items {
-        sorted.insert(*item)?;
-    }
-    Ok(sorted)
 }

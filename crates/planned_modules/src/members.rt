@@ -50,15 +50,6 @@ pub fn find_each(
     Ok(founds)
 }
 
-/// Returns the name that isn't found, in its normal form if it has one.
-fn not_found(alloc: Global, name: &Name) -> Result<ResolveFault, AllocError>
-    ensures { IfOk result (λ fault. fault ≡ unfound name.now) }
-{
-    Ok(ResolveFault::NotFound {
-        name: normal_or_itself(alloc, name.as_bytes())?,
-    })
-}
-
 /// Tests that all that was found is known.
 pub fn check_known(
     alloc: Global,
@@ -83,17 +74,6 @@ pub fn check_known(
     Ok(())
 }
 
-/// Returns the names of all that was found.
-fn names_in<'a>(alloc: Global, founds: &'a [Found]) -> Result<Vec<&'a Name>, AllocError>
-    ensures { IfOk result (λ names. texts names.items ≡ all_names founds.now) }
-{
-    let mut names = Vec::new(alloc);
-    for found in founds {
-        push_all(&mut names, &found.names)?;
-    }
-    Ok(names)
-}
-
 /// Lists the modules of what was found for each name, by their places.
 pub(crate) fn requests_of(
     alloc: Global,
@@ -113,6 +93,62 @@ pub(crate) fn requests_of(
     Ok(requests)
 }
 
+/// Makes a mark for each module that isn't loaded.
+pub(crate) fn free_marks(alloc: Global, planner: &Planner<'_>) -> Result<Vec<bool>, AllocError>
+    ensures long { IfOk result
+        (λ free. length free.items ≡ length (modules_spec (sources_of planner.now))) }
+    ensures marks { IfOk result (λ free. marked free.items ≡ unloaded (sources_of planner.now)) }
+{
+    let loaded = name_set(alloc, planner.loaded())?;
+    marks_but(alloc, planner.modules(), &loaded)
+}
+
+/// Returns the command that is run in place of loading the module of this name, unless commands are
+/// ignored.
+pub fn chosen_command<'a>(rules: &'a RuleTable<'_>, ignored: bool, name: &[u8]) -> Option<&'a [u8]>
+    ensures { option_map (λ command. command.now) result
+        ≡ chosen_command rules.now ignored name.now }
+{
+    if ignored {
+        None
+    } else {
+        install_command(rules, name)
+    }
+}
+
+/// Returns the name that isn't found, in its normal form if it has one.
+fn not_found(alloc: Global, name: &Name) -> Result<ResolveFault, AllocError>
+    ensures { IfOk result (λ fault. fault ≡ unfound name.now) }
+{
+    Ok(ResolveFault::NotFound {
+        name: normal_or_itself(alloc, name.as_bytes())?,
+    })
+}
+
+/// Returns whether a member is unknown: no module, no install rule, and not built in.
+fn is_unknown(planner: &Planner<'_>, ignored: bool, name: &[u8]) -> bool
+    ensures { result ≡ is_unknown (sources_of planner.now) ignored name.now }
+{
+    if planner.modules().place(name).is_some() {
+        return false;
+    }
+    if chosen_command(planner.rules(), ignored, name).is_some() {
+        return false;
+    }
+    !planner.is_builtin(name)
+}
+
+/// Returns the names of all that was found.
+fn names_in<'a>(alloc: Global, founds: &'a [Found]) -> Result<Vec<&'a Name>, AllocError>
+    ensures { IfOk result (λ names. texts names.items ≡ all_names founds.now) }
+{
+    let mut names = Vec::new(alloc);
+    for found in founds {
+        push_all(&mut names, &found.names)?;
+    }
+    Ok(names)
+}
+
 /// Finds the places of the names that are modules.
 fn request_of(alloc: Global, planner: &Planner<'_>, names: &Names) -> Result<Vec<usize>, AllocError>
     ensures items { IfOk result
@@ -124,14 +160,15 @@ fn request_of(alloc: Global, planner: &Planner<'_>, names: &Names) -> Result<Vec
     Ok(places)
 }
 
-/// Makes a mark for each module that isn't loaded.
-pub(crate) fn free_marks(alloc: Global, planner: &Planner<'_>) -> Result<Vec<bool>, AllocError>
-    ensures long { IfOk result
-        (λ free. length free.items ≡ length (modules_spec (sources_of planner.now))) }
-    ensures marks { IfOk result (λ free. marked free.items ≡ unloaded (sources_of planner.now)) }
+/// Names as a set.
+fn name_set<'a>(alloc: Global, names: &'a [Name]) -> Result<NameSet<'a>, AllocError>
+    ensures { IfOk result (λ set. (name : List ℕ) → is_among set name ≡ is_among names.now name) }
 {
-    let loaded = name_set(alloc, planner.loaded())?;
-    marks_but(alloc, planner.modules(), &loaded)
+    let mut set = NameSet::new(alloc);
+    for name in names {
+        set.insert(name.as_bytes())?;
+    }
+    Ok(set)
 }
 
 /// Makes a mark for each module whose name isn't among some.
@@ -150,17 +187,6 @@ fn marks_but(
         marks.push(!names.contains(modules.name(place)))?;
     }
     Ok(marks)
-}
-
-/// Names as a set.
-fn name_set<'a>(alloc: Global, names: &'a [Name]) -> Result<NameSet<'a>, AllocError>
-    ensures { IfOk result (λ set. (name : List ℕ) → is_among set name ≡ is_among names.now name) }
-{
-    let mut set = NameSet::new(alloc);
-    for name in names {
-        set.insert(name.as_bytes())?;
-    }
-    Ok(set)
 }
 
 /// Finds the first command that a rule has for loading the module of this name.
@@ -188,30 +214,4 @@ fn command_in<'a>(rule: &'a Rule, wanted: &[u8]) -> Option<&'a [u8]>
         | Rule::Remove { .. }
         | Rule::Softdep { .. } => None,
     }
-}
-
-/// Returns the command that is run in place of loading the module of this name, unless commands are
-/// ignored.
-pub fn chosen_command<'a>(rules: &'a RuleTable<'_>, ignored: bool, name: &[u8]) -> Option<&'a [u8]>
-    ensures { option_map (λ command. command.now) result
-        ≡ chosen_command rules.now ignored name.now }
-{
-    if ignored {
-        None
-    } else {
-        install_command(rules, name)
-    }
-}
-
-/// Returns whether a member is unknown: no module, no install rule, and not built in.
-fn is_unknown(planner: &Planner<'_>, ignored: bool, name: &[u8]) -> bool
-    ensures { result ≡ is_unknown (sources_of planner.now) ignored name.now }
-{
-    if planner.modules().place(name).is_some() {
-        return false;
-    }
-    if chosen_command(planner.rules(), ignored, name).is_some() {
-        return false;
-    }
-    !planner.is_builtin(name)
 }

@@ -23,55 +23,6 @@ pub(crate) enum Side {
     After,
 }
 
-/// Returns the names that soft dependencies have on one side of a module.
-fn soft_names<'a>(
-    alloc: Global,
-    rules: &'a RuleTable<'_>,
-    name: &[u8],
-    side: Side,
-) -> Result<Vec<&'a Name>, AllocError>
-    ensures { IfOk result
-        (λ names. texts names.items ≡ flat_map (names_on side name.now) rules.now) }
-{
-    let mut names = Vec::new(alloc);
-    let own = rules.on(name);
-    for rule in own {
-        push_soft_names(&mut names, *rule, name, side)?;
-    }
-    Ok(names)
-}
-
-fn push_soft_names<'a>(
-    names: &mut Vec<&'a Name>,
-    rule: &'a Rule,
-    wanted: &[u8],
-    side: Side,
-) -> Result<(), AllocError>
-    ensures { OnOk result
-        (texts names.new.items ≡ texts names.old.items ++ names_on side wanted.now rule.now) }
-{
-    match rule {
-        Rule::Softdep { name, pre, post } if name.as_bytes() == wanted => {
-            push_all(names, on_side(side, pre, post))
-        }
-        Rule::Softdep { .. }
-        | Rule::Alias { .. }
-        | Rule::Blacklist { .. }
-        | Rule::Options { .. }
-        | Rule::Install { .. }
-        | Rule::Remove { .. } => Ok(()),
-    }
-}
-
-fn on_side<'a>(side: Side, pre: &'a Names, post: &'a Names) -> &'a Names
-    ensures { result.now ≡ names_of_side side pre.now post.now }
-{
-    match side {
-        Side::Before => pre,
-        Side::After => post,
-    }
-}
-
 /// Adds names.
 pub(crate) fn push_all<'a>(names: &mut Vec<&'a Name>, more: &'a Names) -> Result<(), AllocError>
     ensures { OnOk result (texts names.new.items ≡ texts names.old.items ++ more.now) }
@@ -150,5 +101,54 @@ impl<'p, 'a> Needs for ModuleNeeds<'p, 'a> {
         before.extend_from_slice(&soft)?;
         let after = self.soft_places(alloc, place, Side::After)?;
         Ok(Needed { before, after })
+    }
+}
+
+/// Returns the names that soft dependencies have on one side of a module.
+fn soft_names<'a>(
+    alloc: Global,
+    rules: &'a RuleTable<'_>,
+    name: &[u8],
+    side: Side,
+) -> Result<Vec<&'a Name>, AllocError>
+    ensures { IfOk result
+        (λ names. texts names.items ≡ flat_map (names_on side name.now) rules.now) }
+{
+    let mut names = Vec::new(alloc);
+    let own = rules.on(name);
+    for rule in own {
+        push_soft_names(&mut names, *rule, name, side)?;
+    }
+    Ok(names)
+}
+
+fn push_soft_names<'a>(
+    names: &mut Vec<&'a Name>,
+    rule: &'a Rule,
+    wanted: &[u8],
+    side: Side,
+) -> Result<(), AllocError>
+    ensures { OnOk result
+        (texts names.new.items ≡ texts names.old.items ++ names_on side wanted.now rule.now) }
+{
+    match rule {
+        Rule::Softdep { name, pre, post } if name.as_bytes() == wanted => {
+            push_all(names, on_side(side, pre, post))
+        }
+        Rule::Softdep { .. }
+        | Rule::Alias { .. }
+        | Rule::Blacklist { .. }
+        | Rule::Options { .. }
+        | Rule::Install { .. }
+        | Rule::Remove { .. } => Ok(()),
+    }
+}
+
+fn on_side<'a>(side: Side, pre: &'a Names, post: &'a Names) -> &'a Names
+    ensures { result.now ≡ names_of_side side pre.now post.now }
+{
+    match side {
+        Side::Before => pre,
+        Side::After => post,
     }
 }

@@ -21,9 +21,6 @@ use std::hash::{BuildHasherDefault, DefaultHasher};
 /// from modules' files, so they are hashed by SipHash.
 pub(crate) type SoftTable<'a> = IndexMap<&'a [u8], Vec<usize>, BuildHasherDefault<DefaultHasher>>;
 
-/// Places of modules, each once, in the order in which they were found.
-type PlaceSet = IndexSet<usize, BuildHasherDefault<DefaultHasher>>;
-
 /// Makes the table of all names that soft dependencies have. Each name is looked up once, and each
 /// module asked once whether it can be loaded.
 pub(crate) fn soft_table<'a>(
@@ -41,6 +38,24 @@ pub(crate) fn soft_table<'a>(
         add_rule(alloc, planner, &mut known, &mut table, rule)?;
     }
     Ok(table)
+}
+
+/// Finds the modules that names stand for and that aren't this one, each once.
+pub(crate) fn find_named(
+    alloc: Global,
+    table: &SoftTable<'_>,
+    place: usize,
+    names: &[&Name],
+) -> Result<Vec<usize>, AllocError>
+    ensures { IfOk result
+        (λ found. found.items
+        ≡ once (filter (λ y. not (y == place))
+        (flat_map (λ name. unwrap_or (kept_places table.now.entries name) [])
+        (texts names.now)))) }
+{
+    let mut found = PlaceSet::with_hasher(alloc, BuildHasherDefault::new());
+    let mut looked_up = NameSet::new(alloc);
+    find_all(alloc, &mut found, &mut looked_up, table, place, names)
 }
 
 /// Makes, for each of some modules, the mark that it isn't known yet whether it can be loaded.
@@ -81,6 +96,42 @@ fn add_rule<'a>(
     }
 }
 
+/// Places of modules, each once, in the order in which they were found.
+type PlaceSet = IndexSet<usize, BuildHasherDefault<DefaultHasher>>;
+
+/// Finds the modules that names stand for, over empty sets. A repeated name is skipped, unless it
+/// stands for so few modules that they are found again as fast.
+fn find_all<'n>(
+    alloc: Global,
+    found: &mut PlaceSet,
+    looked_up: &mut NameSet<'n>,
+    table: &SoftTable<'_>,
+    place: usize,
+    names: &[&'n Name],
+) -> Result<Vec<usize>, AllocError>
+    requires found { found.old.keys ≡ [] }
+    requires looked_up { looked_up.old ≡ [] }
+    ensures { IfOk result
+        (λ places. places.items
+        ≡ once (filter (λ y. not (y == place))
+        (flat_map (λ name. unwrap_or (kept_places table.now.entries name) [])
+        (texts names.now)))) }
+{
+    let mut next = 0;
+    for name in names {
+        let name = name.as_bytes();
+        let (places, after) = places_under(table, next, name);
+        next = after;
+        if places.len() < 2 {
+            find_others(found, place, places)?;
+        } else if !looked_up.contains(name) {
+            looked_up.insert(name)?;
+            find_others(found, place, places)?;
+        }
+    }
+    Vec::from_slice(alloc, found.as_slice())
+}
+
 /// Adds names. The table has room for all of them before the first one is added.
 fn add_names<'a>(
     alloc: Global,
@@ -98,6 +149,34 @@ fn add_names<'a>(
     table.reserve(more.len())?;
     for name in more.as_slice() {
         add_name(alloc, planner, known, table, name)?;
+    }
+    Ok(())
+}
+
+/// Returns the modules under a name, none if the table doesn't have it, and where the table goes on
+/// after the name. The names of a rule are mostly one after the other in the table. So the name is
+/// first compared with the next one, for which no hash is computed.
+fn places_under<'t>(table: &'t SoftTable<'_>, next: usize, name: &[u8]) -> (&'t [usize], usize)
+    ensures { result.0.now ≡ unwrap_or (kept_places table.now.entries name.now) [] }
+{
+    if let Some(places) = places_at(table, next, name) {
+        return (places, next.wrapping_add(1));
+    }
+    match table.get_full(name) {
+        Some((at, _, places)) => (places.as_slice(), at.wrapping_add(1)),
+        None => (&[], next),
+    }
+}
+
+/// Finds the modules among some that aren't this one, unless they were found before.
+fn find_others(found: &mut PlaceSet, place: usize, places: &[usize]) -> Result<(), AllocError>
+    ensures { OnOk result
+        (found.new.keys ≡ with_items found.old.keys (filter (λ y. not (y == place)) places.now)) }
+{
+    for y in places {
+        if *y != place {
+            found.insert(*y)?;
+        }
     }
     Ok(())
 }
@@ -124,6 +203,17 @@ fn add_name<'a>(
             Ok(())
         }
     }
+}
+
+/// Returns the modules at a place of the table, if they are kept under this name.
+fn places_at<'t>(table: &'t SoftTable<'_>, at: usize, name: &[u8]) -> Option<&'t [usize]>
+    ensures { IfSome result (λ places. kept_places table.now.entries name.now ≡ Some places.now) }
+{
+    let (key, places) = table.get_index(at)?;
+    if *key == name {
+        return Some(places.as_slice());
+    }
+    None
 }
 
 /// Finds the modules that a name stands for and that can be loaded. If modules.unmet has no line,
@@ -195,94 +285,4 @@ fn is_loadable(
             Ok(loadable)
         }
     }
-}
-
-/// Finds the modules that names stand for and that aren't this one, each once.
-pub(crate) fn find_named(
-    alloc: Global,
-    table: &SoftTable<'_>,
-    place: usize,
-    names: &[&Name],
-) -> Result<Vec<usize>, AllocError>
-    ensures { IfOk result
-        (λ found. found.items
-        ≡ once (filter (λ y. not (y == place))
-        (flat_map (λ name. unwrap_or (kept_places table.now.entries name) [])
-        (texts names.now)))) }
-{
-    let mut found = PlaceSet::with_hasher(alloc, BuildHasherDefault::new());
-    let mut looked_up = NameSet::new(alloc);
-    find_all(alloc, &mut found, &mut looked_up, table, place, names)
-}
-
-/// Finds the modules that names stand for, over empty sets. A repeated name is skipped, unless it
-/// stands for so few modules that they are found again as fast.
-fn find_all<'n>(
-    alloc: Global,
-    found: &mut PlaceSet,
-    looked_up: &mut NameSet<'n>,
-    table: &SoftTable<'_>,
-    place: usize,
-    names: &[&'n Name],
-) -> Result<Vec<usize>, AllocError>
-    requires found { found.old.keys ≡ [] }
-    requires looked_up { looked_up.old ≡ [] }
-    ensures { IfOk result
-        (λ places. places.items
-        ≡ once (filter (λ y. not (y == place))
-        (flat_map (λ name. unwrap_or (kept_places table.now.entries name) [])
-        (texts names.now)))) }
-{
-    let mut next = 0;
-    for name in names {
-        let name = name.as_bytes();
-        let (places, after) = places_under(table, next, name);
-        next = after;
-        if places.len() < 2 {
-            find_others(found, place, places)?;
-        } else if !looked_up.contains(name) {
-            looked_up.insert(name)?;
-            find_others(found, place, places)?;
-        }
-    }
-    Vec::from_slice(alloc, found.as_slice())
-}
-
-/// Returns the modules under a name, none if the table doesn't have it, and where the table goes on
-/// after the name. The names of a rule are mostly one after the other in the table. So the name is
-/// first compared with the next one, for which no hash is computed.
-fn places_under<'t>(table: &'t SoftTable<'_>, next: usize, name: &[u8]) -> (&'t [usize], usize)
-    ensures { result.0.now ≡ unwrap_or (kept_places table.now.entries name.now) [] }
-{
-    if let Some(places) = places_at(table, next, name) {
-        return (places, next.wrapping_add(1));
-    }
-    match table.get_full(name) {
-        Some((at, _, places)) => (places.as_slice(), at.wrapping_add(1)),
-        None => (&[], next),
-    }
-}
-
-/// Returns the modules at a place of the table, if they are kept under this name.
-fn places_at<'t>(table: &'t SoftTable<'_>, at: usize, name: &[u8]) -> Option<&'t [usize]>
-    ensures { IfSome result (λ places. kept_places table.now.entries name.now ≡ Some places.now) }
-{
-    let (key, places) = table.get_index(at)?;
-    if *key == name {
-        return Some(places.as_slice());
-    }
-    None
-}
-
-/// Finds the modules among some that aren't this one, unless they were found before.
-fn find_others(found: &mut PlaceSet, place: usize, places: &[usize]) -> Result<(), AllocError>
-    ensures { OnOk result
-        (found.new.keys ≡ with_items found.old.keys (filter (λ y. not (y == place)) places.now)) }
-{
-    for y in places {
-        if *y != place {
-            found.insert(*y)?;
-        }
-    }
-    Ok(())
 }

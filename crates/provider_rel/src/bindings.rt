@@ -44,14 +44,21 @@ impl<'a> Bindings<'a> {
     }
 }
 
-/// Returns the place of the module that has the export at a place, if a module has it.
-fn owner_at(items: &[ExportItem], place: Option<u32>) -> Option<u32>
-    ensures { result ≡ owner_under items.now place }
+/// Finds the same for each module.
+pub(crate) fn all_used(
+    alloc: Global,
+    items: &[ExportItem],
+    bound: &[Vec<Option<u32>>],
+) -> Result<Vec<Vec<usize>>, AllocError>
+    ensures { IfOk result
+        (λ used. map (λ u. u.items) used.items
+        ≡ map (λ b. used_places items.now b.items) bound.now) }
 {
-    match item_at(items, place) {
-        Some(item) => item.place(),
-        None => None,
+    let mut all = Vec::new(alloc);
+    for needs in bound {
+        all.push(used(alloc, items, needs)?)?;
     }
+    Ok(all)
 }
 
 /// Finds the places of the modules that a module uses, by what its needs are bound to.
@@ -71,19 +78,12 @@ fn used(
     Ok(used)
 }
 
-/// Finds the same for each module.
-pub(crate) fn all_used(
-    alloc: Global,
-    items: &[ExportItem],
-    bound: &[Vec<Option<u32>>],
-) -> Result<Vec<Vec<usize>>, AllocError>
-    ensures { IfOk result
-        (λ used. map (λ u. u.items) used.items
-        ≡ map (λ b. used_places items.now b.items) bound.now) }
+/// Returns the place of the module that has the export at a place, if a module has it.
+fn owner_at(items: &[ExportItem], place: Option<u32>) -> Option<u32>
+    ensures { result ≡ owner_under items.now place }
 {
-    let mut all = Vec::new(alloc);
-    for needs in bound {
-        all.push(used(alloc, items, needs)?)?;
+    match item_at(items, place) {
+        Some(item) => item.place(),
+        None => None,
     }
-    Ok(all)
 }

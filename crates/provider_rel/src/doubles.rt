@@ -14,27 +14,6 @@ use name_table::OwnedNameTable;
 use std::alloc::{AllocError, Global};
 use symbol_binding::{Obstacles, Unbound};
 
-/// Finds the place of the first export that has the name of the one at `k`.
-fn first_at(names: &OwnedNameTable, items: &[ExportItem], k: usize, item: &ExportItem) -> usize
-    requires names { IsTableOf names.now (map item_name items.now) }
-    requires place { k < length items.now }
-    requires item { item.now ≡ slice_index_or items.now k item.now }
-    ensures first { place_of names.now item.now.export.name ≡ Some result }
-    ensures within { result < length items.now }
-{
-    match names.place(item.name()) {
-        Some(place) => place as usize,
-        None => k,
-    }
-}
-
-/// Makes a number of zeros.
-fn zeros(alloc: Global, count: usize) -> Result<Vec<u32>, AllocError>
-    ensures { IfOk result (λ list. list.items ≡ replicate count 0) }
-{
-    vec![in alloc; 0; count]
-}
-
 /// Counts the double lines: for each export as many as there are exports of its name before it.
 pub(crate) fn count_doubles(
     alloc: Global,
@@ -55,16 +34,70 @@ pub(crate) fn count_doubles(
     Ok(count)
 }
 
-/// Makes the double line of an export and one before it.
-fn double(alloc: Global, before: &ExportItem, item: &ExportItem) -> Result<Unbound, AllocError>
-    ensures { IfOk result
-        (λ line. line ≡ Double item.now.export.name before.now.path item.now.path) }
+/// Adds the double lines.
+pub(crate) fn push_doubles(
+    alloc: Global,
+    lines: &mut Obstacles,
+    names: &OwnedNameTable,
+    items: &[ExportItem],
+) -> Result<(), AllocError>
+    requires names { IsTableOf names.now (map item_name items.now) }
+    requires few { length items.now < 2 ^ 32 }
+    ensures { OnOk result (lines.new ≡ lines.old ++ item_doubles [] items.now) }
 {
-    Ok(Unbound::Double {
-        symbol: Name::from_slice(alloc, item.name())?,
-        first: PathText::from_slice(alloc, before.path())?,
-        second: PathText::from_slice(alloc, item.path())?,
-    })
+    let mut next = zeros(alloc, items.len())?;
+    for k in 0..items.len() {
+        push_item(alloc, lines, &mut next, names, items, k)?;
+    }
+    Ok(())
+}
+
+/// Makes a number of zeros.
+fn zeros(alloc: Global, count: usize) -> Result<Vec<u32>, AllocError>
+    ensures { IfOk result (λ list. list.items ≡ replicate count 0) }
+{
+    vec![in alloc; 0; count]
+}
+
+/// Finds the place of the first export that has the name of the one at `k`.
+fn first_at(names: &OwnedNameTable, items: &[ExportItem], k: usize, item: &ExportItem) -> usize
+    requires names { IsTableOf names.now (map item_name items.now) }
+    requires place { k < length items.now }
+    requires item { item.now ≡ slice_index_or items.now k item.now }
+    ensures first { place_of names.now item.now.export.name ≡ Some result }
+    ensures within { result < length items.now }
+{
+    match names.place(item.name()) {
+        Some(place) => place as usize,
+        None => k,
+    }
+}
+
+/// Adds the double lines of the export at a place, and links it behind the exports of its name.
+fn push_item(
+    alloc: Global,
+    lines: &mut Obstacles,
+    next: &mut Vec<u32>,
+    names: &OwnedNameTable,
+    items: &[ExportItem],
+    k: usize,
+) -> Result<(), AllocError>
+    requires names { IsTableOf names.now (map item_name items.now) }
+    requires few { length items.now < 2 ^ 32 }
+    requires place { k < length items.now }
+    requires linked { AreLinked items.now names.now k next.old.items }
+    ensures linked { OnOk result (AreLinked items.now names.now (k + 1) next.new.items) }
+    ensures lines { OnOk result ((before : List Unbound)
+        → lines.old ≡ before ++ item_doubles [] (take k items.now)
+        → lines.new ≡ before ++ item_doubles [] (take (k + 1) items.now)) }
+{
+    let item = &items[k];
+    let first = first_at(names, items, k, item);
+    if first < k {
+        let last = push_chain(alloc, lines, items, next.as_slice(), first, item)?;
+        next[last] = k as u32;
+    }
+    Ok(())
 }
 
 /// Adds the double lines of an export with the one at a place, and with those linked after that.
@@ -99,47 +132,14 @@ fn push_chain(
     }
 }
 
-/// Adds the double lines of the export at a place, and links it behind the exports of its name.
-fn push_item(
-    alloc: Global,
-    lines: &mut Obstacles,
-    next: &mut Vec<u32>,
-    names: &OwnedNameTable,
-    items: &[ExportItem],
-    k: usize,
-) -> Result<(), AllocError>
-    requires names { IsTableOf names.now (map item_name items.now) }
-    requires few { length items.now < 2 ^ 32 }
-    requires place { k < length items.now }
-    requires linked { AreLinked items.now names.now k next.old.items }
-    ensures linked { OnOk result (AreLinked items.now names.now (k + 1) next.new.items) }
-    ensures lines { OnOk result ((before : List Unbound)
-        → lines.old ≡ before ++ item_doubles [] (take k items.now)
-        → lines.new ≡ before ++ item_doubles [] (take (k + 1) items.now)) }
+/// Makes the double line of an export and one before it.
+fn double(alloc: Global, before: &ExportItem, item: &ExportItem) -> Result<Unbound, AllocError>
+    ensures { IfOk result
+        (λ line. line ≡ Double item.now.export.name before.now.path item.now.path) }
 {
-    let item = &items[k];
-    let first = first_at(names, items, k, item);
-    if first < k {
-        let last = push_chain(alloc, lines, items, next.as_slice(), first, item)?;
-        next[last] = k as u32;
-    }
-    Ok(())
-}
-
-/// Adds the double lines.
-pub(crate) fn push_doubles(
-    alloc: Global,
-    lines: &mut Obstacles,
-    names: &OwnedNameTable,
-    items: &[ExportItem],
-) -> Result<(), AllocError>
-    requires names { IsTableOf names.now (map item_name items.now) }
-    requires few { length items.now < 2 ^ 32 }
-    ensures { OnOk result (lines.new ≡ lines.old ++ item_doubles [] items.now) }
-{
-    let mut next = zeros(alloc, items.len())?;
-    for k in 0..items.len() {
-        push_item(alloc, lines, &mut next, names, items, k)?;
-    }
-    Ok(())
+    Ok(Unbound::Double {
+        symbol: Name::from_slice(alloc, item.name())?,
+        first: PathText::from_slice(alloc, before.path())?,
+        second: PathText::from_slice(alloc, item.path())?,
+    })
 }

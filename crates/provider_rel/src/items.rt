@@ -83,6 +83,71 @@ impl<'a> ExportItem<'a> {
     }
 }
 
+/// Lists all exports: the kernel's, and then each module's in the order of the tree.
+pub(crate) fn all_items<'a>(
+    alloc: Global,
+    tree: &'a TreeFacts,
+    kernel: &'a Kernel,
+) -> Result<Vec<ExportItem<'a>>, AllocError>
+    requires { IsTree tree.now }
+    ensures { IfOk result
+        (λ items. items.items ≡ items_spec (modules_of tree.now) (kernel_of kernel.now)) }
+{
+    let mut items = Vec::new(alloc);
+    push_kernel_items(&mut items, kernel)?;
+    let modules = tree.as_slice();
+    for i in 0..modules.len() {
+        push_module_items(&mut items, &modules[i], i as u32)?;
+    }
+    Ok(items)
+}
+
+/// Makes the table of the names of exports, by their places. If the places don't fit in 32 bits, it
+/// is out of memory.
+pub(crate) fn names_of(alloc: Global, items: &[ExportItem]) -> Result<OwnedNameTable, RelationFault>
+    ensures names { IfOk result (λ names. IsTableOf names (map item_name items.now)) }
+    ensures few { OnOk result (length items.now < 2 ^ 32) }
+    ensures err { IfErr result (λ fault. fault ≡ RelationFault.Memory) }
+{
+    if items.len() >= u32::MAX as usize {
+        return Err(RelationFault::Memory);
+    }
+    let mut names = OwnedNameTable::new(alloc);
+    for item in items {
+        names.push(alloc, Some(item.name()))?;
+    }
+    Ok(names)
+}
+
+/// Finds the same for the needs of each module.
+pub(crate) fn all_bound(
+    alloc: Global,
+    names: &OwnedNameTable,
+    tree: &TreeFacts,
+) -> Result<Vec<Vec<Option<u32>>>, AllocError>
+    ensures { IfOk result
+        (λ bound. map (λ b. b.items) bound.items ≡ map (λ f. bound_of names.now f.needs) tree.now) }
+{
+    let mut bound = Vec::new(alloc);
+    for facts in tree.as_slice() {
+        bound.push(bound_needs(alloc, names, &facts.needs)?)?;
+    }
+    Ok(bound)
+}
+
+/// Returns the export at a place, if there is one.
+pub(crate) fn item_at<'s, 'a>(
+    items: &'s [ExportItem<'a>],
+    place: Option<u32>,
+) -> Option<&'s ExportItem<'a>>
+    ensures { option_copied result ≡ option_and_then (slice_get items.now) place }
+{
+    match place {
+        Some(place) => items.get(place as usize),
+        None => None,
+    }
+}
+
 /// Adds the exports of a kernel.
 fn push_kernel_items<'a>(
     items: &mut Vec<ExportItem<'a>>,
@@ -127,42 +192,6 @@ fn push_module_items<'a>(
     Ok(())
 }
 
-/// Lists all exports: the kernel's, and then each module's in the order of the tree.
-pub(crate) fn all_items<'a>(
-    alloc: Global,
-    tree: &'a TreeFacts,
-    kernel: &'a Kernel,
-) -> Result<Vec<ExportItem<'a>>, AllocError>
-    requires { IsTree tree.now }
-    ensures { IfOk result
-        (λ items. items.items ≡ items_spec (modules_of tree.now) (kernel_of kernel.now)) }
-{
-    let mut items = Vec::new(alloc);
-    push_kernel_items(&mut items, kernel)?;
-    let modules = tree.as_slice();
-    for i in 0..modules.len() {
-        push_module_items(&mut items, &modules[i], i as u32)?;
-    }
-    Ok(items)
-}
-
-/// Makes the table of the names of exports, by their places. If the places don't fit in 32 bits, it
-/// is out of memory.
-pub(crate) fn names_of(alloc: Global, items: &[ExportItem]) -> Result<OwnedNameTable, RelationFault>
-    ensures names { IfOk result (λ names. IsTableOf names (map item_name items.now)) }
-    ensures few { OnOk result (length items.now < 2 ^ 32) }
-    ensures err { IfErr result (λ fault. fault ≡ RelationFault.Memory) }
-{
-    if items.len() >= u32::MAX as usize {
-        return Err(RelationFault::Memory);
-    }
-    let mut names = OwnedNameTable::new(alloc);
-    for item in items {
-        names.push(alloc, Some(item.name()))?;
-    }
-    Ok(names)
-}
-
 /// Finds for each need the place of the first export of its name.
 fn bound_needs(
     alloc: Global,
@@ -176,33 +205,4 @@ fn bound_needs(
         .iter()
         .map(|need| names.place(need.name.as_bytes()))
         .collect(alloc)
-}
-
-/// Finds the same for the needs of each module.
-pub(crate) fn all_bound(
-    alloc: Global,
-    names: &OwnedNameTable,
-    tree: &TreeFacts,
-) -> Result<Vec<Vec<Option<u32>>>, AllocError>
-    ensures { IfOk result
-        (λ bound. map (λ b. b.items) bound.items ≡ map (λ f. bound_of names.now f.needs) tree.now) }
-{
-    let mut bound = Vec::new(alloc);
-    for facts in tree.as_slice() {
-        bound.push(bound_needs(alloc, names, &facts.needs)?)?;
-    }
-    Ok(bound)
-}
-
-/// Returns the export at a place, if there is one.
-pub(crate) fn item_at<'s, 'a>(
-    items: &'s [ExportItem<'a>],
-    place: Option<u32>,
-) -> Option<&'s ExportItem<'a>>
-    ensures { option_copied result ≡ option_and_then (slice_get items.now) place }
-{
-    match place {
-        Some(place) => items.get(place as usize),
-        None => None,
-    }
 }

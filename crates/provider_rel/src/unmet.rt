@@ -23,6 +23,86 @@ pub(crate) enum UnmetKind {
     Namespace,
 }
 
+/// Adds the lines of a kind of all modules.
+pub(crate) fn push_all_lines(
+    alloc: Global,
+    lines: &mut Obstacles,
+    kind: UnmetKind,
+    tree: &TreeFacts,
+    bindings: &Bindings,
+) -> Result<(), AllocError>
+    requires { map (λ b. b.items) bindings.now.bound.items
+        ≡ map (λ f. bound_of bindings.now.names f.needs) tree.now }
+    ensures { OnOk result
+        (lines.new
+        ≡ lines.old
+        ++ flat_map
+        (lines_by kind bindings.now.known bindings.now.items.items bindings.now.names)
+        tree.now) }
+{
+    let modules = tree.as_slice();
+    for i in 0..modules.len() {
+        push_lines(
+            alloc,
+            lines,
+            kind,
+            &modules[i],
+            bindings,
+            &bindings.bound[i],
+        )?;
+    }
+    Ok(())
+}
+
+/// Adds the lines of a kind of a module's needs.
+fn push_lines(
+    alloc: Global,
+    lines: &mut Obstacles,
+    kind: UnmetKind,
+    facts: &Facts,
+    bindings: &Bindings,
+    bound: &[Option<u32>],
+) -> Result<(), AllocError>
+    requires { bound.now ≡ bound_of bindings.now.names facts.now.needs }
+    ensures { OnOk result
+        (lines.new
+        ≡ lines.old
+        ++ lines_by kind bindings.now.known bindings.now.items.items bindings.now.names
+        facts.now) }
+{
+    let needs = facts.needs.as_slice();
+    for i in 0..needs.len() {
+        let found = item_at(&bindings.items, bound[i]);
+        push_line(alloc, lines, kind, facts, &needs[i], found, bindings.known)?;
+    }
+    Ok(())
+}
+
+/// Adds the line of a kind of a need, if it has one.
+#[tactic(auto, unfolding(crate::specs::Kinds::line_if))]
+fn push_line(
+    alloc: Global,
+    lines: &mut Obstacles,
+    kind: UnmetKind,
+    facts: &Facts,
+    need: &Need,
+    found: Option<&ExportItem>,
+    known: bool,
+) -> Result<(), AllocError>
+    ensures { OnOk result
+        (lines.new
+        ≡ lines.old ++ line_if kind known facts.now need.now (option_copied found.entry)) }
+{
+    let (unmet, provider) = match found {
+        Some(item) => (is_unmet_by(kind, facts, need, item), item.path()),
+        None => (is_unmet_alone(kind, need, known), path_of_none(known)),
+    };
+    if unmet {
+        lines.push(line(alloc, kind, &facts.path, &need.name, provider)?)?;
+    }
+    Ok(())
+}
+
 /// Returns whether a need has a line of a kind, if an export was found under its name.
 fn is_unmet_by(kind: UnmetKind, facts: &Facts, need: &Need, item: &ExportItem) -> bool
     ensures { result
@@ -48,6 +128,13 @@ fn is_unmet_alone(kind: UnmetKind, need: &Need, known: bool) -> bool
         UnmetKind::Missing => known && !need.weak,
         UnmetKind::Gpl | UnmetKind::Version | UnmetKind::Namespace => false,
     }
+}
+
+/// Returns the path of an unknown kernel as a provider, or the empty path for nobody.
+fn path_of_none(known: bool) -> &'static [u8]
+    ensures { result.now ≡ path_under known None }
+{
+    if known { b"" } else { b"vmlinux" }
 }
 
 /// Makes the line of a kind.
@@ -81,91 +168,4 @@ fn line(
             provider,
         },
     })
-}
-
-/// Returns the path of an unknown kernel as a provider, or the empty path for nobody.
-fn path_of_none(known: bool) -> &'static [u8]
-    ensures { result.now ≡ path_under known None }
-{
-    if known { b"" } else { b"vmlinux" }
-}
-
-/// Adds the line of a kind of a need, if it has one.
-#[tactic(auto, unfolding(crate::specs::Kinds::line_if))]
-fn push_line(
-    alloc: Global,
-    lines: &mut Obstacles,
-    kind: UnmetKind,
-    facts: &Facts,
-    need: &Need,
-    found: Option<&ExportItem>,
-    known: bool,
-) -> Result<(), AllocError>
-    ensures { OnOk result
-        (lines.new
-        ≡ lines.old ++ line_if kind known facts.now need.now (option_copied found.entry)) }
-{
-    let (unmet, provider) = match found {
-        Some(item) => (is_unmet_by(kind, facts, need, item), item.path()),
-        None => (is_unmet_alone(kind, need, known), path_of_none(known)),
-    };
-    if unmet {
-        lines.push(line(alloc, kind, &facts.path, &need.name, provider)?)?;
-    }
-    Ok(())
-}
-
-/// Adds the lines of a kind of a module's needs.
-fn push_lines(
-    alloc: Global,
-    lines: &mut Obstacles,
-    kind: UnmetKind,
-    facts: &Facts,
-    bindings: &Bindings,
-    bound: &[Option<u32>],
-) -> Result<(), AllocError>
-    requires { bound.now ≡ bound_of bindings.now.names facts.now.needs }
-    ensures { OnOk result
-        (lines.new
-        ≡ lines.old
-        ++ lines_by kind bindings.now.known bindings.now.items.items bindings.now.names
-        facts.now) }
-{
-    let needs = facts.needs.as_slice();
-    for i in 0..needs.len() {
-        let found = item_at(&bindings.items, bound[i]);
-        push_line(alloc, lines, kind, facts, &needs[i], found, bindings.known)?;
-    }
-    Ok(())
-}
-
-/// Adds the lines of a kind of all modules.
-pub(crate) fn push_all_lines(
-    alloc: Global,
-    lines: &mut Obstacles,
-    kind: UnmetKind,
-    tree: &TreeFacts,
-    bindings: &Bindings,
-) -> Result<(), AllocError>
-    requires { map (λ b. b.items) bindings.now.bound.items
-        ≡ map (λ f. bound_of bindings.now.names f.needs) tree.now }
-    ensures { OnOk result
-        (lines.new
-        ≡ lines.old
-        ++ flat_map
-        (lines_by kind bindings.now.known bindings.now.items.items bindings.now.names)
-        tree.now) }
-{
-    let modules = tree.as_slice();
-    for i in 0..modules.len() {
-        push_lines(
-            alloc,
-            lines,
-            kind,
-            &modules[i],
-            bindings,
-            &bindings.bound[i],
-        )?;
-    }
-    Ok(())
 }

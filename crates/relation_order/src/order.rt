@@ -28,102 +28,6 @@ pub struct OrderBuilder {
     pub looked: Vec<usize>,
 }
 
-// Finds the place of the first of some items that is a member and isn't listed, or how many items
-// there are. It looks from a place on, and there is none before that.
-fn first_open(items: &[usize], from: usize, members: &[bool], listed: &[bool]) -> usize
-    requires in_members { All (λ y. y < length members.now) items.now }
-    requires in_listed { All (λ y. y < length listed.now) items.now }
-    requires from { from ≤ length items.now }
-    requires front { AllListed members.now listed.now (take from items.now) }
-    ensures within { result ≤ length items.now }
-    ensures front { AllListed members.now listed.now (take result items.now) }
-    ensures open { result < length items.now
-        → (slice_index_or members.now (slice_index items.now result) false ≡ true)
-        × (slice_index_or listed.now (slice_index items.now result) false ≡ false) }
-{
-    let mut at = from;
-    while at < items.len() && !is_open(members, listed, items[at]) {
-        at += 1;
-    }
-    at
-}
-
-// Returns whether an item is marked as a member and not as listed.
-fn is_open(members: &[bool], listed: &[bool], item: usize) -> bool
-    requires member { item < length members.now }
-    requires listed { item < length listed.now }
-    ensures { result ≡ (slice_index_or members.now item false
-        && not (slice_index_or listed.now item false)) }
-{
-    members[item] && !listed[item]
-}
-
-/// Adds an item to the list at a place.
-pub(crate) fn add_at(
-    lists: &mut Vec<Vec<usize>>,
-    place: usize,
-    item: usize,
-) -> Result<(), AllocError>
-    requires { place < length lists.old.items }
-    ensures long { OnOk result (length lists.new.items ≡ length lists.old.items) }
-    ensures added { OnOk result ((z y : ℕ) → goes lists.new.items z y
-        ≡ (goes lists.old.items z y || (z == place && y == item))) }
-{
-    lists[place].push(item)?;
-    Ok(())
-}
-
-// Takes the list at a place.
-fn take_at(alloc: Global, lists: &mut Vec<Vec<usize>>, place: usize) -> Vec<usize>
-    requires { place < length lists.old.items }
-    ensures long { length lists.new.items ≡ length lists.old.items }
-    ensures taken { (y : ℕ) → has result.items y ≡ goes lists.old.items place y }
-    ensures rest { (z y : ℕ) → goes lists.new.items z y
-        ≡ (not (z == place) && goes lists.old.items z y) }
-{
-    mem::replace(&mut lists[place], Vec::new(alloc))
-}
-
-/// Finds the least order of the marked members, as many as can be listed. In it each member comes
-/// after those that it goes to.
-pub fn least(
-    alloc: Global,
-    lists: &[Vec<usize>],
-    members: &[bool],
-) -> Result<Vec<usize>, AllocError>
-    requires long { length members.now ≡ length lists.now }
-    requires inside { Inside (length lists.now) lists.now }
-    ensures { IfOk result (λ order. order.items
-        ≡ least_order (goes lists.now) (marked members.now)) }
-{
-    let mut builder = OrderBuilder::new(alloc, members.len())?;
-    let all = marked(alloc, members)?;
-    builder.place_all(lists, members, &all)?;
-    for round in 0..members.len() {
-        builder.step(alloc, lists, members)?;
-    }
-    Ok(builder.order)
-}
-
-/// Makes as many zeros.
-pub(crate) fn zeros(alloc: Global, count: usize) -> Result<Vec<usize>, AllocError>
-    ensures { IfOk result (λ zeros. zeros.items ≡ replicate count 0) }
-{
-    vec![in alloc; 0; count]
-}
-
-/// Makes a number of empty lists.
-pub(crate) fn empty_lists(alloc: Global, count: usize) -> Result<Vec<Vec<usize>>, AllocError>
-    ensures long { IfOk result (λ lists. length lists.items ≡ count) }
-    ensures empty { IfOk result (λ lists. (z y : ℕ) → goes lists.items z y ≡ false) }
-{
-    let mut lists = Vec::new(alloc);
-    for _ in 0..count {
-        lists.push(Vec::new(alloc))?;
-    }
-    Ok(lists)
-}
-
 impl OrderBuilder {
     /// Begins an order with nothing listed yet.
     pub fn new(alloc: Global, count: usize) -> Result<OrderBuilder, AllocError>
@@ -219,4 +123,100 @@ impl OrderBuilder {
         }
         Ok(())
     }
+}
+
+/// Adds an item to the list at a place.
+pub(crate) fn add_at(
+    lists: &mut Vec<Vec<usize>>,
+    place: usize,
+    item: usize,
+) -> Result<(), AllocError>
+    requires { place < length lists.old.items }
+    ensures long { OnOk result (length lists.new.items ≡ length lists.old.items) }
+    ensures added { OnOk result ((z y : ℕ) → goes lists.new.items z y
+        ≡ (goes lists.old.items z y || (z == place && y == item))) }
+{
+    lists[place].push(item)?;
+    Ok(())
+}
+
+/// Finds the least order of the marked members, as many as can be listed. In it each member comes
+/// after those that it goes to.
+pub fn least(
+    alloc: Global,
+    lists: &[Vec<usize>],
+    members: &[bool],
+) -> Result<Vec<usize>, AllocError>
+    requires long { length members.now ≡ length lists.now }
+    requires inside { Inside (length lists.now) lists.now }
+    ensures { IfOk result (λ order. order.items
+        ≡ least_order (goes lists.now) (marked members.now)) }
+{
+    let mut builder = OrderBuilder::new(alloc, members.len())?;
+    let all = marked(alloc, members)?;
+    builder.place_all(lists, members, &all)?;
+    for round in 0..members.len() {
+        builder.step(alloc, lists, members)?;
+    }
+    Ok(builder.order)
+}
+
+/// Makes as many zeros.
+pub(crate) fn zeros(alloc: Global, count: usize) -> Result<Vec<usize>, AllocError>
+    ensures { IfOk result (λ zeros. zeros.items ≡ replicate count 0) }
+{
+    vec![in alloc; 0; count]
+}
+
+/// Makes a number of empty lists.
+pub(crate) fn empty_lists(alloc: Global, count: usize) -> Result<Vec<Vec<usize>>, AllocError>
+    ensures long { IfOk result (λ lists. length lists.items ≡ count) }
+    ensures empty { IfOk result (λ lists. (z y : ℕ) → goes lists.items z y ≡ false) }
+{
+    let mut lists = Vec::new(alloc);
+    for _ in 0..count {
+        lists.push(Vec::new(alloc))?;
+    }
+    Ok(lists)
+}
+
+// Takes the list at a place.
+fn take_at(alloc: Global, lists: &mut Vec<Vec<usize>>, place: usize) -> Vec<usize>
+    requires { place < length lists.old.items }
+    ensures long { length lists.new.items ≡ length lists.old.items }
+    ensures taken { (y : ℕ) → has result.items y ≡ goes lists.old.items place y }
+    ensures rest { (z y : ℕ) → goes lists.new.items z y
+        ≡ (not (z == place) && goes lists.old.items z y) }
+{
+    mem::replace(&mut lists[place], Vec::new(alloc))
+}
+
+// Finds the place of the first of some items that is a member and isn't listed, or how many items
+// there are. It looks from a place on, and there is none before that.
+fn first_open(items: &[usize], from: usize, members: &[bool], listed: &[bool]) -> usize
+    requires in_members { All (λ y. y < length members.now) items.now }
+    requires in_listed { All (λ y. y < length listed.now) items.now }
+    requires from { from ≤ length items.now }
+    requires front { AllListed members.now listed.now (take from items.now) }
+    ensures within { result ≤ length items.now }
+    ensures front { AllListed members.now listed.now (take result items.now) }
+    ensures open { result < length items.now
+        → (slice_index_or members.now (slice_index items.now result) false ≡ true)
+        × (slice_index_or listed.now (slice_index items.now result) false ≡ false) }
+{
+    let mut at = from;
+    while at < items.len() && !is_open(members, listed, items[at]) {
+        at += 1;
+    }
+    at
+}
+
+// Returns whether an item is marked as a member and not as listed.
+fn is_open(members: &[bool], listed: &[bool], item: usize) -> bool
+    requires member { item < length members.now }
+    requires listed { item < length listed.now }
+    ensures { result ≡ (slice_index_or members.now item false
+        && not (slice_index_or listed.now item false)) }
+{
+    members[item] && !listed[item]
 }

@@ -9,6 +9,22 @@ use model_loader::Machine;
 use name_table::NameSet;
 use std::alloc::{AllocError, Global};
 
+/// Returns for each module, oldest first, whether it has one of these names.
+pub(crate) fn asked(
+    alloc: Global,
+    machine: &Machine,
+    names: &Names,
+) -> Result<Vec<bool>, AllocError>
+    ensures { IfOk result (λ v. AreAsked machine.now names.now v.items) }
+{
+    let set = set_of(alloc, names)?;
+    let mut marks = Vec::with_capacity(alloc, machine.module_count())?;
+    for k in 0..machine.module_count() {
+        marks.push(is_asked(machine, &set, k))?;
+    }
+    Ok(marks)
+}
+
 /// Returns the set of some names.
 fn set_of<'a>(alloc: Global, names: &'a Names) -> Result<NameSet<'a>, AllocError>
     ensures { IfOk result (λ set. (name : List ℕ) → is_among set name ≡ is_among names.now name) }
@@ -26,20 +42,4 @@ fn is_asked(machine: &Machine, set: &NameSet, k: usize) -> bool
     ensures { result ≡ is_asked machine.now set.now k }
 {
     set.contains(machine.module_at(k).name.as_bytes())
-}
-
-/// Returns for each module, oldest first, whether it has one of these names.
-pub(crate) fn asked(
-    alloc: Global,
-    machine: &Machine,
-    names: &Names,
-) -> Result<Vec<bool>, AllocError>
-    ensures { IfOk result (λ v. AreAsked machine.now names.now v.items) }
-{
-    let set = set_of(alloc, names)?;
-    let mut marks = Vec::with_capacity(alloc, machine.module_count())?;
-    for k in 0..machine.module_count() {
-        marks.push(is_asked(machine, &set, k))?;
-    }
-    Ok(marks)
 }

@@ -8,26 +8,6 @@ use modprobe_conf::{Rule, Rules};
 use name_table::NameTable;
 use std::alloc::{AllocError, Global};
 
-/// Returns the name of the module that the rule has a remove command for.
-fn removed_name(rule: &Rule) -> Option<&[u8]>
-    ensures { option_map (λ name. name.now) result ≡ removed_name rule.now }
-{
-    let Rule::Remove { name, .. } = rule else {
-        return None;
-    };
-    Some(name.as_bytes())
-}
-
-/// Returns the remove command of the rule.
-fn removing_command(rule: &Rule) -> Option<&[u8]>
-    ensures { option_map (λ command. command.now) result ≡ removing_command rule.now }
-{
-    let Rule::Remove { command, .. } = rule else {
-        return None;
-    };
-    Some(command.as_bytes())
-}
-
 /// Returns the places of the rules that have a remove command, by the module's name.
 pub(crate) fn table_of<'a>(alloc: Global, rules: &'a Rules) -> Result<NameTable<'a>, AllocError>
     ensures { IfOk result (λ t. IsTableOf t (map removed_name rules.now)) }
@@ -43,14 +23,22 @@ pub(crate) fn table_of<'a>(alloc: Global, rules: &'a Rules) -> Result<NameTable<
     Ok(table)
 }
 
-/// Returns the rule at a place, if there is one.
-fn rule_at(rules: &[Rule], place: Option<u32>) -> Option<&Rule>
-    ensures { option_copied result ≡ option_and_then (slice_get rules.now) place }
+/// Returns the command of the first rule for removing the module of this name.
+pub(crate) fn command_for<'a>(rules: &'a Rules, table: &NameTable, name: &[u8]) -> Option<&'a [u8]>
+    requires { IsTableOf table.now (map removed_name rules.now) }
+    ensures { option_map (λ command. command.now) result ≡ remove_command rules.now name.now }
 {
-    match place {
-        Some(place) => rules.get(place as usize),
-        None => None,
-    }
+    command_at(rules.as_slice(), table.place(name))
+}
+
+/// Returns the name of the module that the rule has a remove command for.
+fn removed_name(rule: &Rule) -> Option<&[u8]>
+    ensures { option_map (λ name. name.now) result ≡ removed_name rule.now }
+{
+    let Rule::Remove { name, .. } = rule else {
+        return None;
+    };
+    Some(name.as_bytes())
 }
 
 /// Returns the remove command of the rule at a place.
@@ -64,10 +52,22 @@ fn command_at(rules: &[Rule], place: Option<u32>) -> Option<&[u8]>
     }
 }
 
-/// Returns the command of the first rule for removing the module of this name.
-pub(crate) fn command_for<'a>(rules: &'a Rules, table: &NameTable, name: &[u8]) -> Option<&'a [u8]>
-    requires { IsTableOf table.now (map removed_name rules.now) }
-    ensures { option_map (λ command. command.now) result ≡ remove_command rules.now name.now }
+/// Returns the remove command of the rule.
+fn removing_command(rule: &Rule) -> Option<&[u8]>
+    ensures { option_map (λ command. command.now) result ≡ removing_command rule.now }
 {
-    command_at(rules.as_slice(), table.place(name))
+    let Rule::Remove { command, .. } = rule else {
+        return None;
+    };
+    Some(command.as_bytes())
+}
+
+/// Returns the rule at a place, if there is one.
+fn rule_at(rules: &[Rule], place: Option<u32>) -> Option<&Rule>
+    ensures { option_copied result ≡ option_and_then (slice_get rules.now) place }
+{
+    match place {
+        Some(place) => rules.get(place as usize),
+        None => None,
+    }
 }

@@ -8,17 +8,6 @@ use crate::marks::mark;
 use model_loader::Machine;
 use std::alloc::{AllocError, Global};
 
-/// Returns whether a module is removed: it is asked for, or only removed modules use it.
-fn goes(asked: &[bool], used: &[bool], kept: &[bool], k: usize) -> bool
-    requires asked { k < length asked.now }
-    requires used { k < length used.now }
-    requires kept { k < length kept.now }
-    ensures { result
-        ≡ (is_marked asked.now k || (is_marked used.now k && not (is_marked kept.now k))) }
-{
-    asked[k] || used[k] && !kept[k]
-}
-
 /// Returns the places of the modules that are removed if these are asked for, youngest first. A
 /// module's users are younger than it, so they are decided when its turn comes.
 pub(crate) fn removed(
@@ -47,4 +36,15 @@ pub(crate) fn removed(
         }
     }
     Ok(going)
+}
+
+/// Returns whether a module is removed: it is asked for, or only removed modules use it.
+fn goes(asked: &[bool], used: &[bool], kept: &[bool], k: usize) -> bool
+    requires asked { k < length asked.now }
+    requires used { k < length used.now }
+    requires kept { k < length kept.now }
+    ensures { result
+        ≡ (is_marked asked.now k || (is_marked used.now k && not (is_marked kept.now k))) }
+{
+    asked[k] || used[k] && !kept[k]
 }

@@ -24,16 +24,6 @@ pub(crate) fn modinfo(alloc: Global, texts: &[Blob]) -> Result<Vec<u8>, AllocErr
     Ok(content)
 }
 
-/// Puts an entry of `__versions` at the end.
-fn push_version(out: &mut Vec<u8>, version: &SheetVersion) -> Result<(), AllocError>
-    requires { length version.now.name ≤ 55 }
-    ensures { OnOk result (out.new.items ≡ out.old.items ++ version_bytes version.now) }
-{
-    push_xword(out, version.crc)?;
-    out.extend_from_slice(version.name.as_bytes())?;
-    push_zeros(out, VERSION_NAME - version.name.len())
-}
-
 /// Returns the entries of `__versions`.
 pub(crate) fn versions(alloc: Global, versions: &[SheetVersion]) -> Result<Vec<u8>, AllocError>
     requires { All (λ v. length v.name ≤ 55) versions.now }
@@ -44,4 +34,14 @@ pub(crate) fn versions(alloc: Global, versions: &[SheetVersion]) -> Result<Vec<u
         push_version(&mut content, version)?;
     }
     Ok(content)
+}
+
+/// Puts an entry of `__versions` at the end.
+fn push_version(out: &mut Vec<u8>, version: &SheetVersion) -> Result<(), AllocError>
+    requires { length version.now.name ≤ 55 }
+    ensures { OnOk result (out.new.items ≡ out.old.items ++ version_bytes version.now) }
+{
+    push_xword(out, version.crc)?;
+    out.extend_from_slice(version.name.as_bytes())?;
+    push_zeros(out, VERSION_NAME - version.name.len())
 }

@@ -65,17 +65,6 @@ impl<'a> Named for &'a [u8] {
     }
 }
 
-/// Puts the names of items at the end, in their order.
-fn push_names<'a, T: Named>(names: &mut Vec<&'a [u8]>, items: &'a [T]) -> Result<(), AllocError>
-    ensures { OnOk result
-        (names_of names.new.items ≡ names_of names.old.items ++ map T.name items.now) }
-{
-    for item in items {
-        names.push(item.name())?;
-    }
-    Ok(())
-}
-
 /// Returns the names of the exported symbols, and then of the undefined symbols.
 pub(crate) fn symbol_names(alloc: Global, sheet: &Sheet) -> Result<Vec<&[u8]>, AllocError>
     ensures { IfOk result (λ v. names_of v.items ≡ symbol_names sheet.now) }
@@ -84,19 +73,6 @@ pub(crate) fn symbol_names(alloc: Global, sheet: &Sheet) -> Result<Vec<&[u8]>, A
     push_names(&mut symbols, sheet.exports.as_slice())?;
     push_names(&mut symbols, sheet.needs.as_slice())?;
     Ok(symbols)
-}
-
-/// Puts the names of items into a table that has none.
-fn fill_table<'a, T: Named>(table: &mut NameTable<'a>, items: &'a [T]) -> Result<(), AllocError>
-    requires few { length items.now ≤ 131070 }
-    requires none { IsTableOf table.old [] }
-    requires count { table.old.count ≡ 0 }
-    ensures { OnOk result (IsTableOf table.new (map (λ n. Some n) (map T.name items.now))) }
-{
-    for item in items {
-        table.push(Some(item.name()))?;
-    }
-    Ok(())
 }
 
 /// Returns the table of the names of items.
@@ -110,4 +86,28 @@ pub(crate) fn table_of<'a, T: Named>(
     let mut table = NameTable::new(alloc);
     fill_table(&mut table, items)?;
     Ok(table)
+}
+
+/// Puts the names of items at the end, in their order.
+fn push_names<'a, T: Named>(names: &mut Vec<&'a [u8]>, items: &'a [T]) -> Result<(), AllocError>
+    ensures { OnOk result
+        (names_of names.new.items ≡ names_of names.old.items ++ map T.name items.now) }
+{
+    for item in items {
+        names.push(item.name())?;
+    }
+    Ok(())
+}
+
+/// Puts the names of items into a table that has none.
+fn fill_table<'a, T: Named>(table: &mut NameTable<'a>, items: &'a [T]) -> Result<(), AllocError>
+    requires few { length items.now ≤ 131070 }
+    requires none { IsTableOf table.old [] }
+    requires count { table.old.count ≡ 0 }
+    ensures { OnOk result (IsTableOf table.new (map (λ n. Some n) (map T.name items.now))) }
+{
+    for item in items {
+        table.push(Some(item.name()))?;
+    }
+    Ok(())
 }

@@ -16,6 +16,23 @@ use elf_format::{
 use elf_write::{Attributes, Part, push_further, push_part, zeros};
 use std::alloc::{AllocError, Global};
 
+/// Returns the sections of a sheet with its additions.
+#[tactic(auto, unfolding(crate::specs::Object::parts_of))]
+pub(crate) fn parts_of(
+    alloc: Global,
+    sheet: &Sheet,
+    more: &SheetMore,
+) -> Result<Vec<Part>, AllocError>
+    requires { IsTrue (is_sheet sheet.now more.now) }
+    ensures { IfOk result (λ parts. parts.items ≡ parts_of sheet.now more.now) }
+{
+    let mut parts = Vec::new(alloc);
+    push_loaded(alloc, &mut parts, sheet)?;
+    push_linked_of(alloc, &mut parts, sheet, more)?;
+    push_further(alloc, &mut parts, further_parts(alloc, more)?)?;
+    Ok(parts)
+}
+
 /// Puts the loaded sections at the end.
 fn push_loaded(alloc: Global, parts: &mut Vec<Part>, sheet: &Sheet) -> Result<(), AllocError>
     requires exports { length sheet.now.exports ≤ 65535 }
@@ -36,6 +53,20 @@ fn push_loaded(alloc: Global, parts: &mut Vec<Part>, sheet: &Sheet) -> Result<()
     let entries = Attributes::plain(SHT_PROGBITS, SHF_ALLOC, 32);
     push_part(alloc, parts, b"__versions", entries, versions)?;
     Ok(())
+}
+
+/// Puts the sections for linking a sheet with its additions at the end.
+fn push_linked_of(
+    alloc: Global,
+    parts: &mut Vec<Part>,
+    sheet: &Sheet,
+    more: &SheetMore,
+) -> Result<(), AllocError>
+    requires { IsTrue (is_sheet sheet.now more.now) }
+    ensures { OnOk result (parts.new.items ≡ parts.old.items ++ linked_parts sheet.now more.now) }
+{
+    let further = Further::new(alloc, more)?;
+    push_linked(alloc, parts, sheet, &further)
 }
 
 /// Puts the sections for linking at the end.
@@ -59,35 +90,4 @@ fn push_linked(
     let names = Attributes::plain(SHT_STRTAB, 0, 1);
     push_part(alloc, parts, b".strtab", names, table.names)?;
     Ok(())
-}
-
-/// Puts the sections for linking a sheet with its additions at the end.
-fn push_linked_of(
-    alloc: Global,
-    parts: &mut Vec<Part>,
-    sheet: &Sheet,
-    more: &SheetMore,
-) -> Result<(), AllocError>
-    requires { IsTrue (is_sheet sheet.now more.now) }
-    ensures { OnOk result (parts.new.items ≡ parts.old.items ++ linked_parts sheet.now more.now) }
-{
-    let further = Further::new(alloc, more)?;
-    push_linked(alloc, parts, sheet, &further)
-}
-
-/// Returns the sections of a sheet with its additions.
-#[tactic(auto, unfolding(crate::specs::Object::parts_of))]
-pub(crate) fn parts_of(
-    alloc: Global,
-    sheet: &Sheet,
-    more: &SheetMore,
-) -> Result<Vec<Part>, AllocError>
-    requires { IsTrue (is_sheet sheet.now more.now) }
-    ensures { IfOk result (λ parts. parts.items ≡ parts_of sheet.now more.now) }
-{
-    let mut parts = Vec::new(alloc);
-    push_loaded(alloc, &mut parts, sheet)?;
-    push_linked_of(alloc, &mut parts, sheet, more)?;
-    push_further(alloc, &mut parts, further_parts(alloc, more)?)?;
-    Ok(parts)
 }

@@ -19,18 +19,6 @@ use std::alloc::{AllocError, Global};
 /// The size of a word of `.data` in bytes.
 pub(crate) const WORD_SIZE: usize = 8;
 
-/// Returns the number of local symbols of an export.
-#[tactic(auto, unfolding(crate::specs::Symbols::local_symbols))]
-fn locals_of(export: &SheetExport, further: &Further) -> u32
-    ensures count { result ≡ length (local_symbols further.now.more.now export.now) }
-    ensures few { result ≤ 3 }
-{
-    let version = if export.crc.is_some() { 1 } else { 0 };
-    let place = further.space_place(export.name.as_bytes());
-    let space = if place.is_some() { 1 } else { 0 };
-    1 + version + space
-}
-
 /// Returns the number of local symbols, with the first symbol.
 pub(crate) fn local_count(exports: &[SheetExport], further: &Further) -> u32
     requires { length exports.now ≤ 65535 }
@@ -43,6 +31,39 @@ pub(crate) fn local_count(exports: &[SheetExport], further: &Further) -> u32
         count += locals_of(export, further);
     }
     count
+}
+
+/// Returns the relocations of a sheet.
+pub(crate) fn relocations(
+    alloc: Global,
+    sheet: &Sheet,
+    further: &Further,
+) -> Result<Vec<u8>, AllocError>
+    requires { IsTrue (is_sheet sheet.now further.now.more.now) }
+    ensures { IfOk result (λ v. v.items ≡ rela_bytes sheet.now further.now.more.now) }
+{
+    let locals = local_count(sheet.exports.as_slice(), further);
+    let names = symbol_names(alloc, sheet)?;
+    let table = table_of(alloc, &names)?;
+    let mut content = Vec::new(alloc);
+    for (k, place) in sheet.places.as_slice().iter().enumerate() {
+        let symbol = symbol_number(locals, &table, place.symbol.as_bytes());
+        let offset = (WORD_SIZE * k) as u64;
+        push_relocation(&mut content, offset, symbol, place)?;
+    }
+    Ok(content)
+}
+
+/// Returns the number of local symbols of an export.
+#[tactic(auto, unfolding(crate::specs::Symbols::local_symbols))]
+fn locals_of(export: &SheetExport, further: &Further) -> u32
+    ensures count { result ≡ length (local_symbols further.now.more.now export.now) }
+    ensures few { result ≤ 3 }
+{
+    let version = if export.crc.is_some() { 1 } else { 0 };
+    let place = further.space_place(export.name.as_bytes());
+    let space = if place.is_some() { 1 } else { 0 };
+    1 + version + space
 }
 
 /// Returns the number of a symbol by its name. The sheet has the symbol of each relocation.
@@ -73,25 +94,4 @@ fn push_relocation(
     push_word(out, place.kind)?;
     push_word(out, symbol)?;
     push_xword(out, place.addend.cast_unsigned())
-}
-
-/// Returns the relocations of a sheet.
-pub(crate) fn relocations(
-    alloc: Global,
-    sheet: &Sheet,
-    further: &Further,
-) -> Result<Vec<u8>, AllocError>
-    requires { IsTrue (is_sheet sheet.now further.now.more.now) }
-    ensures { IfOk result (λ v. v.items ≡ rela_bytes sheet.now further.now.more.now) }
-{
-    let locals = local_count(sheet.exports.as_slice(), further);
-    let names = symbol_names(alloc, sheet)?;
-    let table = table_of(alloc, &names)?;
-    let mut content = Vec::new(alloc);
-    for (k, place) in sheet.places.as_slice().iter().enumerate() {
-        let symbol = symbol_number(locals, &table, place.symbol.as_bytes());
-        let offset = (WORD_SIZE * k) as u64;
-        push_relocation(&mut content, offset, symbol, place)?;
-    }
-    Ok(content)
 }

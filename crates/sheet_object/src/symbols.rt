@@ -38,34 +38,6 @@ pub(crate) struct SymbolTable {
     pub(crate) names: Vec<u8>,
 }
 
-/// The numbers of a symbol.
-#[derive(Clone, Copy)]
-struct Symbol {
-    info: u8,
-    section: u16,
-    value: u64,
-    size: u64,
-}
-
-/// Returns the info of an undefined symbol.
-fn need_info(weak: bool) -> u8
-    ensures { result ≡ need_info weak }
-{
-    if weak { WEAK } else { GLOBAL }
-}
-
-/// Returns a local symbol.
-fn local(section: u16, value: u64) -> Symbol
-    ensures { result ≡ record { info = 0; section = section; value = value; size = 0 } }
-{
-    Symbol {
-        info: LOCAL,
-        section,
-        value,
-        size: 0,
-    }
-}
-
 impl SymbolTable {
     /// Returns the table of the first symbol, which is zeros and has no name.
     fn new(alloc: Global) -> Result<Self, AllocError>
@@ -213,4 +185,32 @@ pub(crate) fn symbol_table(
     table.push_exports(exports)?;
     table.push_needs(sheet.needs.as_slice())?;
     Ok(table)
+}
+
+/// The numbers of a symbol.
+#[derive(Clone, Copy)]
+struct Symbol {
+    info: u8,
+    section: u16,
+    value: u64,
+    size: u64,
+}
+
+/// Returns a local symbol.
+fn local(section: u16, value: u64) -> Symbol
+    ensures { result ≡ record { info = 0; section = section; value = value; size = 0 } }
+{
+    Symbol {
+        info: LOCAL,
+        section,
+        value,
+        size: 0,
+    }
+}
+
+/// Returns the info of an undefined symbol.
+fn need_info(weak: bool) -> u8
+    ensures { result ≡ need_info weak }
+{
+    if weak { WEAK } else { GLOBAL }
 }

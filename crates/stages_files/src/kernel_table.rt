@@ -50,6 +50,16 @@ pub fn read_symvers<F: Reads>(alloc: Global, file: PathText, files: &mut F) -> R
     symvers_table(alloc, bytes, file)
 }
 
+/// Returns the stop of a command for a fault of the kernel's table in the file at the path.
+pub fn stop_of_table(fault: KernelFault, file: PathText) -> Stop
+    ensures { result ≡ table_stop file fault }
+{
+    match fault {
+        KernelFault::BadKernelLine { line } => Stop::from(Refusal::BadLine { file, number: line }),
+        KernelFault::Memory => Stop::Memory,
+    }
+}
+
 /// Returns the table of a System.map of these bytes, or the refusal of the file at the path.
 fn map_table(alloc: Global, bytes: Blob, file: PathText) -> Result<Kernel, Stop>
     requires { length bytes ≤ file_limit }
@@ -69,15 +79,5 @@ fn symvers_table(alloc: Global, bytes: Blob, file: PathText) -> Result<Kernel, S
     match Kernel::from_symvers(alloc, bytes.as_bytes()) {
         Ok(kernel) => Ok(kernel),
         Err(fault) => Err(stop_of_table(fault, file)),
-    }
-}
-
-/// Returns the stop of a command for a fault of the kernel's table in the file at the path.
-pub fn stop_of_table(fault: KernelFault, file: PathText) -> Stop
-    ensures { result ≡ table_stop file fault }
-{
-    match fault {
-        KernelFault::BadKernelLine { line } => Stop::from(Refusal::BadLine { file, number: line }),
-        KernelFault::Memory => Stop::Memory,
     }
 }

@@ -38,22 +38,6 @@ pub fn load_listed<F: Reads>(
     Ok(machine)
 }
 
-/// Loads the listed module of a name.
-fn load_listed_one<F: Reads>(
-    alloc: Global,
-    folder: &PathText,
-    index: &Index,
-    machine: Machine,
-    name: &Name,
-    files: &mut F,
-) -> Result<Machine, Stop>
-    ensures { FollowsOnFiles (loads_listed_one folder.now index.now machine name.now)
-        F.seen files.old files.new result }
-{
-    let found = path_listed(index, name.as_bytes());
-    load_listed_at(alloc, folder, machine, name, found, files)
-}
-
 /// Loads the listed module of a name that has this path in the folder, if it has one. A name
 /// without a path ends the command with a line of its own, and so does a module whose load is
 /// refused. modprobe(8).
@@ -73,6 +57,35 @@ pub fn load_listed_at<F: Reads>(
     load_listed_file(alloc, folder, machine, &path, files)
 }
 
+/// Loads the listed module of a name.
+fn load_listed_one<F: Reads>(
+    alloc: Global,
+    folder: &PathText,
+    index: &Index,
+    machine: Machine,
+    name: &Name,
+    files: &mut F,
+) -> Result<Machine, Stop>
+    ensures { FollowsOnFiles (loads_listed_one folder.now index.now machine name.now)
+        F.seen files.old files.new result }
+{
+    let found = path_listed(index, name.as_bytes());
+    load_listed_at(alloc, folder, machine, name, found, files)
+}
+
+/// Returns the path in the folder of the listed module of a name, or its refusal.
+fn path_of_listed(alloc: Global, name: &Name, found: Option<&[u8]>) -> Result<PathText, Stop>
+    ensures { Returns (listed_outcome name.now (option_copied found.entry)) result }
+{
+    match found {
+        Some(path) => Ok(PathText::from_slice(alloc, path)?),
+        None => {
+            let name = Name::from_slice(alloc, name.as_bytes())?;
+            Err(Stop::from(Refusal::ListedNotFound { name }))
+        }
+    }
+}
+
 /// Loads the listed module at a path in the folder.
 fn load_listed_file<F: Reads>(
     alloc: Global,
@@ -88,17 +101,4 @@ fn load_listed_file<F: Reads>(
     let after = load(alloc, Cause::Listed, machine, &module);
     drop(module);
     after
-}
-
-/// Returns the path in the folder of the listed module of a name, or its refusal.
-fn path_of_listed(alloc: Global, name: &Name, found: Option<&[u8]>) -> Result<PathText, Stop>
-    ensures { Returns (listed_outcome name.now (option_copied found.entry)) result }
-{
-    match found {
-        Some(path) => Ok(PathText::from_slice(alloc, path)?),
-        None => {
-            let name = Name::from_slice(alloc, name.as_bytes())?;
-            Err(Stop::from(Refusal::ListedNotFound { name }))
-        }
-    }
 }

@@ -58,44 +58,6 @@ pub fn load_all<F: Writes, O: Out>(
     Ok(machine)
 }
 
-/// Loads a module of the tree in the folder, and gives the machine after it.
-fn load_one<F: Writes, O: Out>(
-    alloc: Global,
-    folder: &PathText,
-    images: &Images,
-    machine: Machine,
-    insert: &Insertion,
-    files: &mut F,
-    out: &mut O,
-) -> Result<Machine, Stop>
-    ensures { FollowsOnFilesAndOut (loads_one folder.now images.now machine insert.now)
-        F.seen files.old files.new O.seen out.old out.new result }
-{
-    let module = read_module_in(alloc, folder, &insert.path, files)?;
-    let options = &insert.options;
-    let after = load_read(alloc, images, machine, &module, options, files, out);
-    drop(module);
-    after
-}
-
-/// Loads a module that was read and shows it, and gives the machine after it.
-fn load_read<F: Writes, O: Out>(
-    alloc: Global,
-    images: &Images,
-    machine: Machine,
-    module: &Module,
-    options: &Blob,
-    files: &mut F,
-    out: &mut O,
-) -> Result<Machine, Stop>
-    ensures { FollowsOnFilesAndOut (loads_read images.now options.now machine «module».now)
-        F.seen files.old files.new O.seen out.old out.new result }
-{
-    let after = load(alloc, Cause::Planned, machine, module)?;
-    show_load(alloc, images, &after, module, options, files, out)?;
-    Ok(after)
-}
-
 /// Returns the machine with the module, or the refusal of the load.
 pub(crate) fn load(
     alloc: Global,
@@ -114,6 +76,26 @@ pub(crate) fn load(
             Err(stop)
         }
     }
+}
+
+/// Loads a module of the tree in the folder, and gives the machine after it.
+fn load_one<F: Writes, O: Out>(
+    alloc: Global,
+    folder: &PathText,
+    images: &Images,
+    machine: Machine,
+    insert: &Insertion,
+    files: &mut F,
+    out: &mut O,
+) -> Result<Machine, Stop>
+    ensures { FollowsOnFilesAndOut (loads_one folder.now images.now machine insert.now)
+        F.seen files.old files.new O.seen out.old out.new result }
+{
+    let module = read_module_in(alloc, folder, &insert.path, files)?;
+    let options = &insert.options;
+    let after = load_read(alloc, images, machine, &module, options, files, out);
+    drop(module);
+    after
 }
 
 /// Returns the stop for a load that is refused for this fault.
@@ -135,6 +117,24 @@ fn load_stop(alloc: Global, cause: Cause, name: &Name, fault: &LoadFault) -> Sto
             Err(_) => Stop::Memory,
         },
     }
+}
+
+/// Loads a module that was read and shows it, and gives the machine after it.
+fn load_read<F: Writes, O: Out>(
+    alloc: Global,
+    images: &Images,
+    machine: Machine,
+    module: &Module,
+    options: &Blob,
+    files: &mut F,
+    out: &mut O,
+) -> Result<Machine, Stop>
+    ensures { FollowsOnFilesAndOut (loads_read images.now options.now machine «module».now)
+        F.seen files.old files.new O.seen out.old out.new result }
+{
+    let after = load(alloc, Cause::Planned, machine, module)?;
+    show_load(alloc, images, &after, module, options, files, out)?;
+    Ok(after)
 }
 
 /// Returns the refusal of a load for this fault.

@@ -56,6 +56,44 @@ pub(crate) fn show_load<F: Writes, O: Out>(
     }
 }
 
+/// Returns the line of a module of the machine with this image. It begins with a word, followed by
+/// the name, the address of the image in 16 hexadecimal digits, its size in bytes, and its SHA-256
+/// digest. FIPS 180-4.
+#[tactic(auto, unfolding(crate::specs::Loads::entry_line))]
+pub fn entry_line(
+    alloc: Global,
+    word: &[u8],
+    loaded: &LoadedModule,
+    image: &[u8],
+) -> Result<Blob, AllocError>
+    ensures { IfOk result (λ line. line ≡ entry_line word.now loaded.now image.now) }
+{
+    let base = hex::encode(alloc, loaded.base.to_be_bytes().as_slice())?;
+    let digest = hex::encode(alloc, Sha256::digest(image).as_slice())?;
+    let size = loaded.size;
+    let rest = format!(in alloc; " {base} {size} {digest}\n")?;
+    let name = loaded.name.as_bytes();
+    Blob::concat(alloc, &[word, b" ", name, rest.as_bytes()])
+}
+
+/// Puts an image into the folder for images, if there is one, and then writes its line.
+fn show_image<F: Writes, O: Out>(
+    alloc: Global,
+    folder: Option<&PathText>,
+    name: &[u8],
+    image: &[u8],
+    line: &Blob,
+    files: &mut F,
+    out: &mut O,
+) -> Result<(), Stop>
+    ensures { FollowsOnFilesAndOut
+        (shows_image (option_copied folder.entry) (record { name = name.now; image = image.now; line = line.now }))
+        F.seen files.old files.new O.seen out.old out.new result }
+{
+    put_image(alloc, folder, name, image, files)?;
+    say(out, line.as_bytes())
+}
+
 /// Writes the options of a loaded module into a copy of its image, and shows that.
 fn show_params<F: Writes, O: Out>(
     alloc: Global,
@@ -84,6 +122,26 @@ fn show_params<F: Writes, O: Out>(
         files,
         out,
     )
+}
+
+/// Puts an image into the folder for images, if there is one, under a name.
+fn put_image<F: Writes>(
+    alloc: Global,
+    folder: Option<&PathText>,
+    name: &[u8],
+    image: &[u8],
+    files: &mut F,
+) -> Result<(), Stop>
+    ensures { FollowsOnFiles (puts_image (option_copied folder.entry) name.now image.now)
+        F.seen files.old files.new result }
+{
+    match folder {
+        None => Ok(()),
+        Some(folder) => {
+            let path = image_path(alloc, folder, name)?;
+            put(alloc, files, path, image)
+        }
+    }
 }
 
 /// Returns the image with the options of a loaded module in it, or the refusal of the options.
@@ -132,68 +190,10 @@ fn params_line(alloc: Global, name: &Name, params: &Params) -> Result<Blob, Allo
     Blob::concat(alloc, &[b"params ", name.as_bytes(), rest.as_bytes()])
 }
 
-/// Puts an image into the folder for images, if there is one, and then writes its line.
-fn show_image<F: Writes, O: Out>(
-    alloc: Global,
-    folder: Option<&PathText>,
-    name: &[u8],
-    image: &[u8],
-    line: &Blob,
-    files: &mut F,
-    out: &mut O,
-) -> Result<(), Stop>
-    ensures { FollowsOnFilesAndOut
-        (shows_image (option_copied folder.entry) (record { name = name.now; image = image.now; line = line.now }))
-        F.seen files.old files.new O.seen out.old out.new result }
-{
-    put_image(alloc, folder, name, image, files)?;
-    say(out, line.as_bytes())
-}
-
-/// Puts an image into the folder for images, if there is one, under a name.
-fn put_image<F: Writes>(
-    alloc: Global,
-    folder: Option<&PathText>,
-    name: &[u8],
-    image: &[u8],
-    files: &mut F,
-) -> Result<(), Stop>
-    ensures { FollowsOnFiles (puts_image (option_copied folder.entry) name.now image.now)
-        F.seen files.old files.new result }
-{
-    match folder {
-        None => Ok(()),
-        Some(folder) => {
-            let path = image_path(alloc, folder, name)?;
-            put(alloc, files, path, image)
-        }
-    }
-}
-
 /// Returns the path of an image of this name in the folder for images.
 fn image_path(alloc: Global, folder: &PathText, name: &[u8]) -> Result<PathText, AllocError>
     ensures { IfOk result (λ path. path ≡ path_below folder.now (name.now ++ codes ".img")) }
 {
     let file = Blob::concat(alloc, &[name, b".img"])?;
     join(alloc, folder, file.as_bytes())
-}
-
-/// Returns the line of a module of the machine with this image. It begins with a word, followed by
-/// the name, the address of the image in 16 hexadecimal digits, its size in bytes, and its SHA-256
-/// digest. FIPS 180-4.
-#[tactic(auto, unfolding(crate::specs::Loads::entry_line))]
-pub fn entry_line(
-    alloc: Global,
-    word: &[u8],
-    loaded: &LoadedModule,
-    image: &[u8],
-) -> Result<Blob, AllocError>
-    ensures { IfOk result (λ line. line ≡ entry_line word.now loaded.now image.now) }
-{
-    let base = hex::encode(alloc, loaded.base.to_be_bytes().as_slice())?;
-    let digest = hex::encode(alloc, Sha256::digest(image).as_slice())?;
-    let size = loaded.size;
-    let rest = format!(in alloc; " {base} {size} {digest}\n")?;
-    let name = loaded.name.as_bytes();
-    Blob::concat(alloc, &[word, b" ", name, rest.as_bytes()])
 }

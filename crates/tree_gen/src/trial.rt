@@ -27,6 +27,38 @@ const SYMVERS: &[u8] = b"0x11111111\tprintk\tvmlinux\tEXPORT_SYMBOL\n";
 /// The kernel's addresses, as `System.map` lists them.
 const SYSTEM_MAP: &[u8] = b"ffffffff81000000 T printk\n";
 
+/// Makes the tree of a trial, below its root: the kernel's `Module.symvers` and `System.map`, and
+/// `count` modules of the kernel `trial`, 1 to 2000. Each module needs the kernel's `printk`. Each
+/// except the first also needs the symbols of one or two modules before it, which are drawn from
+/// the seed. No call of the files fails. The only error is out of memory.
+#[tactic(auto, unfolding(crate::specs::Trial::trial_contents))]
+pub fn generate(alloc: Global, seed: u64, count: u32) -> Result<MemFiles, AllocError>
+    requires { (1 ≤ count) × (count ≤ 2000) }
+    ensures { IfOk result (λ files. files ≡ trial_files seed count) }
+{
+    let mut files = kernel_files(alloc)?;
+    let mut draws = Draws::new(seed);
+    for number in 0..count {
+        let path = module_path(alloc, number)?;
+        let bytes = module_file(alloc, number, &mut draws)?;
+        files.put(&path, bytes.as_bytes())?;
+    }
+    Ok(files)
+}
+
+/// Returns the two files of the kernel.
+#[tactic(auto, unfolding(crate::specs::Trial::kernel_contents))]
+fn kernel_files(alloc: Global) -> Result<MemFiles, AllocError>
+    ensures { IfOk result (λ files. files ≡ unused kernel_contents) }
+{
+    let symvers = PathText::from_slice(alloc, SYMVERS_PATH.as_bytes())?;
+    let system_map = PathText::from_slice(alloc, SYSTEM_MAP_PATH.as_bytes())?;
+    let mut files = MemFiles::new(alloc);
+    files.put(&symvers, SYMVERS)?;
+    files.put(&system_map, SYSTEM_MAP)?;
+    Ok(files)
+}
+
 /// Returns the path of the module of this number.
 #[tactic(auto, unfolding(crate::specs::Trial::module_path))]
 fn module_path(alloc: Global, number: u32) -> Result<PathText, AllocError>
@@ -52,36 +84,4 @@ fn module_file(alloc: Global, number: u32, draws: &mut Draws) -> Result<Blob, Al
     let modules = draws.modules(alloc, number)?;
     let sheet = module_sheet(alloc, number, &modules)?;
     object(alloc, &sheet)
-}
-
-/// Returns the two files of the kernel.
-#[tactic(auto, unfolding(crate::specs::Trial::kernel_contents))]
-fn kernel_files(alloc: Global) -> Result<MemFiles, AllocError>
-    ensures { IfOk result (λ files. files ≡ unused kernel_contents) }
-{
-    let symvers = PathText::from_slice(alloc, SYMVERS_PATH.as_bytes())?;
-    let system_map = PathText::from_slice(alloc, SYSTEM_MAP_PATH.as_bytes())?;
-    let mut files = MemFiles::new(alloc);
-    files.put(&symvers, SYMVERS)?;
-    files.put(&system_map, SYSTEM_MAP)?;
-    Ok(files)
-}
-
-/// Makes the tree of a trial, below its root: the kernel's `Module.symvers` and `System.map`, and
-/// `count` modules of the kernel `trial`, 1 to 2000. Each module needs the kernel's `printk`. Each
-/// except the first also needs the symbols of one or two modules before it, which are drawn from
-/// the seed. No call of the files fails. The only error is out of memory.
-#[tactic(auto, unfolding(crate::specs::Trial::trial_contents))]
-pub fn generate(alloc: Global, seed: u64, count: u32) -> Result<MemFiles, AllocError>
-    requires { (1 ≤ count) × (count ≤ 2000) }
-    ensures { IfOk result (λ files. files ≡ trial_files seed count) }
-{
-    let mut files = kernel_files(alloc)?;
-    let mut draws = Draws::new(seed);
-    for number in 0..count {
-        let path = module_path(alloc, number)?;
-        let bytes = module_file(alloc, number, &mut draws)?;
-        files.put(&path, bytes.as_bytes())?;
-    }
-    Ok(files)
 }

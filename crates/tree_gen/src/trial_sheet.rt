@@ -18,13 +18,6 @@ const PRINTK_VERSION: u64 = 0x1111_1111;
 /// The version of the symbol of module 0.
 const FIRST_VERSION: u64 = 0x2000_0000;
 
-/// Returns the last decimal digit of a number.
-fn digit(number: u32) -> u8
-    ensures { result ≡ digit number }
-{
-    b'0' + (number % 10) as u8
-}
-
 /// Returns the last four decimal digits of a number.
 pub(crate) fn four_digits(number: u32) -> [u8; 4]
     ensures { result ≡ four_digits number }
@@ -37,34 +30,28 @@ pub(crate) fn four_digits(number: u32) -> [u8; 4]
     ]
 }
 
-/// Returns the name of the symbol that the module of this number exports.
-#[tactic(auto, unfolding(crate::specs::Trial::symbol_name))]
-fn symbol_name(alloc: Global, number: u32) -> Result<Name, AllocError>
-    ensures { IfOk result (λ name. name ≡ symbol_name number) }
+/// Returns the sheet of the module of this number, which draws these modules.
+#[tactic(auto, unfolding(crate::specs::Trial::module_sheet))]
+pub(crate) fn module_sheet(alloc: Global, number: u32, modules: &[u32]) -> Result<Sheet, AllocError>
+    ensures { IfOk result (λ sheet. sheet ≡ module_sheet number modules.now) }
 {
-    let mut name = Name::from_slice(alloc, b"s")?;
-    name.extend(&four_digits(number))?;
-    Ok(name)
-}
-
-/// Returns the symbol that the module of this number exports, with its version.
-fn exported(alloc: Global, number: u32) -> Result<SheetVersion, AllocError>
-    ensures { IfOk result (λ version. version ≡ exported number) }
-{
-    let name = symbol_name(alloc, number)?;
-    let crc = FIRST_VERSION + u64::from(number);
-    Ok(SheetVersion { name, crc })
-}
-
-/// Returns the symbol of the kernel that each module needs, with its version.
-fn printk(alloc: Global) -> Result<SheetVersion, AllocError>
-    ensures { IfOk result (λ version. version ≡ printk) }
-{
-    let name = Name::from_slice(alloc, b"printk")?;
-    Ok(SheetVersion {
-        name,
-        crc: PRINTK_VERSION,
+    let versions = needed(alloc, modules)?;
+    let needs = needs(alloc, versions.as_slice())?;
+    let places = places(alloc, versions.as_slice())?;
+    Ok(Sheet {
+        texts: texts(alloc, number)?,
+        versions,
+        exports: exports(alloc, number)?,
+        needs,
+        places,
     })
+}
+
+/// Returns the last decimal digit of a number.
+fn digit(number: u32) -> u8
+    ensures { result ≡ digit number }
+{
+    b'0' + (number % 10) as u8
 }
 
 /// Returns the symbols that a module needs, with their versions. The module draws these modules.
@@ -77,19 +64,6 @@ fn needed(alloc: Global, modules: &[u32]) -> Result<SheetVersions, AllocError>
         versions.push(exported(alloc, *drawn)?)?;
     }
     Ok(versions)
-}
-
-/// Returns the only export of the module of this number, its symbol.
-fn exports(alloc: Global, number: u32) -> Result<SheetExports, AllocError>
-    ensures { IfOk result (λ exports. exports ≡ stated (exported number) ∷ []) }
-{
-    let SheetVersion { name, crc } = exported(alloc, number)?;
-    let mut exports = SheetExports::new(alloc);
-    exports.push(SheetExport {
-        name,
-        crc: Some(crc),
-    })?;
-    Ok(exports)
 }
 
 /// Returns needs of these symbols, none of them weak.
@@ -133,19 +107,45 @@ fn texts(alloc: Global, number: u32) -> Result<Texts, AllocError>
     Ok(texts)
 }
 
-/// Returns the sheet of the module of this number, which draws these modules.
-#[tactic(auto, unfolding(crate::specs::Trial::module_sheet))]
-pub(crate) fn module_sheet(alloc: Global, number: u32, modules: &[u32]) -> Result<Sheet, AllocError>
-    ensures { IfOk result (λ sheet. sheet ≡ module_sheet number modules.now) }
+/// Returns the only export of the module of this number, its symbol.
+fn exports(alloc: Global, number: u32) -> Result<SheetExports, AllocError>
+    ensures { IfOk result (λ exports. exports ≡ stated (exported number) ∷ []) }
 {
-    let versions = needed(alloc, modules)?;
-    let needs = needs(alloc, versions.as_slice())?;
-    let places = places(alloc, versions.as_slice())?;
-    Ok(Sheet {
-        texts: texts(alloc, number)?,
-        versions,
-        exports: exports(alloc, number)?,
-        needs,
-        places,
+    let SheetVersion { name, crc } = exported(alloc, number)?;
+    let mut exports = SheetExports::new(alloc);
+    exports.push(SheetExport {
+        name,
+        crc: Some(crc),
+    })?;
+    Ok(exports)
+}
+
+/// Returns the symbol of the kernel that each module needs, with its version.
+fn printk(alloc: Global) -> Result<SheetVersion, AllocError>
+    ensures { IfOk result (λ version. version ≡ printk) }
+{
+    let name = Name::from_slice(alloc, b"printk")?;
+    Ok(SheetVersion {
+        name,
+        crc: PRINTK_VERSION,
     })
+}
+
+/// Returns the symbol that the module of this number exports, with its version.
+fn exported(alloc: Global, number: u32) -> Result<SheetVersion, AllocError>
+    ensures { IfOk result (λ version. version ≡ exported number) }
+{
+    let name = symbol_name(alloc, number)?;
+    let crc = FIRST_VERSION + u64::from(number);
+    Ok(SheetVersion { name, crc })
+}
+
+/// Returns the name of the symbol that the module of this number exports.
+#[tactic(auto, unfolding(crate::specs::Trial::symbol_name))]
+fn symbol_name(alloc: Global, number: u32) -> Result<Name, AllocError>
+    ensures { IfOk result (λ name. name ≡ symbol_name number) }
+{
+    let mut name = Name::from_slice(alloc, b"s")?;
+    name.extend(&four_digits(number))?;
+    Ok(name)
 }

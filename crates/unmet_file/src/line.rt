@@ -38,6 +38,21 @@ pub(crate) fn read_line(alloc: Global, line: &[u8]) -> Result<Option<Unbound>, A
     }
 }
 
+/// Returns the three words of a text with a space between them, if it has this form. A word isn't
+/// empty and its bytes are 33 to 126.
+pub fn three_words(text: &[u8]) -> Option<(&[u8], &[u8], &[u8])>
+    ensures { option_map (λ w. (w.0.now, w.1.now, w.2.now)) result ≡ three_words text.now }
+{
+    let (first, others) = split_at_byte(text, b' ');
+    if !is_graphic(first) {
+        return None;
+    }
+    match two_words(others) {
+        Some((second, third)) => Some((first, second, third)),
+        None => None,
+    }
+}
+
 /// Returns the form whose first word this is.
 #[tactic(auto, unfolding(crate::specs::Forms::form_named))]
 fn form_named(word: &[u8]) -> Option<Form>
@@ -69,6 +84,17 @@ fn stated(alloc: Global, form: Form, words: &[u8]) -> Result<Option<Unbound>, Al
     }
 }
 
+/// Returns the two words of a text.
+fn two_words(text: &[u8]) -> Option<(&[u8], &[u8])>
+    ensures { option_map (λ w. (w.0.now, w.1.now)) result ≡ two_words text.now }
+{
+    let (first, second) = split_at_byte(text, b' ');
+    if !is_graphic(first) || !is_graphic(second) {
+        return None;
+    }
+    Some((first, second))
+}
+
 fn missing(alloc: Global, words: &[u8]) -> Result<Option<Unbound>, AllocError>
     ensures { IfOk result (λ unbound. unbound ≡ missing_of words.now) }
 {
@@ -76,19 +102,6 @@ fn missing(alloc: Global, words: &[u8]) -> Result<Option<Unbound>, AllocError>
         Some((path, symbol)) => Ok(Some(Unbound::Missing {
             path: PathText::from_slice(alloc, path)?,
             symbol: Name::from_slice(alloc, symbol)?,
-        })),
-        None => Ok(None),
-    }
-}
-
-fn double(alloc: Global, words: &[u8]) -> Result<Option<Unbound>, AllocError>
-    ensures { IfOk result (λ unbound. unbound ≡ double_of words.now) }
-{
-    match three_words(words) {
-        Some((symbol, first, second)) => Ok(Some(Unbound::Double {
-            symbol: Name::from_slice(alloc, symbol)?,
-            first: PathText::from_slice(alloc, first)?,
-            second: PathText::from_slice(alloc, second)?,
         })),
         None => Ok(None),
     }
@@ -124,28 +137,15 @@ fn provided(alloc: Global, kind: ProvidedKind, words: &[u8]) -> Result<Option<Un
     }
 }
 
-/// Returns the two words of a text.
-fn two_words(text: &[u8]) -> Option<(&[u8], &[u8])>
-    ensures { option_map (λ w. (w.0.now, w.1.now)) result ≡ two_words text.now }
+fn double(alloc: Global, words: &[u8]) -> Result<Option<Unbound>, AllocError>
+    ensures { IfOk result (λ unbound. unbound ≡ double_of words.now) }
 {
-    let (first, second) = split_at_byte(text, b' ');
-    if !is_graphic(first) || !is_graphic(second) {
-        return None;
-    }
-    Some((first, second))
-}
-
-/// Returns the three words of a text with a space between them, if it has this form. A word isn't
-/// empty and its bytes are 33 to 126.
-pub fn three_words(text: &[u8]) -> Option<(&[u8], &[u8], &[u8])>
-    ensures { option_map (λ w. (w.0.now, w.1.now, w.2.now)) result ≡ three_words text.now }
-{
-    let (first, others) = split_at_byte(text, b' ');
-    if !is_graphic(first) {
-        return None;
-    }
-    match two_words(others) {
-        Some((second, third)) => Some((first, second, third)),
-        None => None,
+    match three_words(words) {
+        Some((symbol, first, second)) => Ok(Some(Unbound::Double {
+            symbol: Name::from_slice(alloc, symbol)?,
+            first: PathText::from_slice(alloc, first)?,
+            second: PathText::from_slice(alloc, second)?,
+        })),
+        None => Ok(None),
     }
 }

@@ -43,24 +43,6 @@ pub struct Overflow {
     pub entry: u32,
 }
 
-/// Writes the word of one patch into the image, and nothing if it is too wide.
-#[tactic(auto, using(crate::proofs::Applied::with_no_bytes))]
-fn put_word(image: &mut Image, patch: &Patch) -> Result<(), TooWide>
-    requires known { IsKnown patch.now.kind }
-    requires within { IsWithin (length image.old) patch.now }
-    ensures outcome { is_ok result ≡ fits patch.now }
-    ensures image { image.new ≡ with_bytes image.old patch.now.at (bytes_of (word_of patch.now)) }
-    ensures unchanged { OnErr result (image.new ≡ image.old) }
-    ensures len { length image.new ≡ length image.old }
-{
-    match value(patch.kind, patch.s, patch.a, patch.p)? {
-        Written::Nothing => {}
-        Written::Four(word) => image.put_u32(patch.at, word),
-        Written::Eight(word) => image.put_u64(patch.at, word),
-    }
-    Ok(())
-}
-
 /// Writes the word of one patch into the image, without memory. The bytes that were there aren't
 /// read. If patches are written one by one, and none shares a byte with an earlier one, the image
 /// is the one with the words of all.
@@ -105,6 +87,24 @@ pub fn apply(image: &mut Image, patches: &Patches) -> Result<(), Overflow>
                 entry: patch.entry,
             });
         }
+    }
+    Ok(())
+}
+
+/// Writes the word of one patch into the image, and nothing if it is too wide.
+#[tactic(auto, using(crate::proofs::Applied::with_no_bytes))]
+fn put_word(image: &mut Image, patch: &Patch) -> Result<(), TooWide>
+    requires known { IsKnown patch.now.kind }
+    requires within { IsWithin (length image.old) patch.now }
+    ensures outcome { is_ok result ≡ fits patch.now }
+    ensures image { image.new ≡ with_bytes image.old patch.now.at (bytes_of (word_of patch.now)) }
+    ensures unchanged { OnErr result (image.new ≡ image.old) }
+    ensures len { length image.new ≡ length image.old }
+{
+    match value(patch.kind, patch.s, patch.a, patch.p)? {
+        Written::Nothing => {}
+        Written::Four(word) => image.put_u32(patch.at, word),
+        Written::Eight(word) => image.put_u64(patch.at, word),
     }
     Ok(())
 }

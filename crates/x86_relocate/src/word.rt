@@ -27,27 +27,6 @@ pub enum Written {
 #[derive(Clone, Copy, PartialEq, Eq, Debug)]
 pub struct TooWide;
 
-/// Returns the four bytes whose zero extension is the value.
-fn unsigned_four(value: u64) -> Result<Written, TooWide>
-    ensures { result ≡ zero_extended value }
-{
-    if value >= 1 << 32 {
-        return Err(TooWide);
-    }
-    Ok(Written::Four(value as u32))
-}
-
-/// Returns the four bytes whose sign extension is the value.
-fn signed_four(value: u64) -> Result<Written, TooWide>
-    ensures { result ≡ sign_extended value }
-{
-    let signed = value.cast_signed();
-    if signed < LEAST || signed > GREATEST {
-        return Err(TooWide);
-    }
-    Ok(Written::Four((value % (1 << 32)) as u32))
-}
-
 /// Returns the word of a relocation of the type `kind`, as in the x86-64 psABI's "Relocation", with
 /// sums modulo 2^64. It is computed from the address `s` of its symbol, the addend `a` and the
 /// address `p` of its place. A R_X86_64_PLT32 is computed as a R_X86_64_PC32, since there is no
@@ -72,4 +51,25 @@ pub fn value(kind: u32, s: u64, a: i64, p: u64) -> Result<Written, TooWide>
         R_X86_64_PC64 => Ok(Written::Eight(relative)),
         _ => unreachable!(),
     }
+}
+
+/// Returns the four bytes whose sign extension is the value.
+fn signed_four(value: u64) -> Result<Written, TooWide>
+    ensures { result ≡ sign_extended value }
+{
+    let signed = value.cast_signed();
+    if signed < LEAST || signed > GREATEST {
+        return Err(TooWide);
+    }
+    Ok(Written::Four((value % (1 << 32)) as u32))
+}
+
+/// Returns the four bytes whose zero extension is the value.
+fn unsigned_four(value: u64) -> Result<Written, TooWide>
+    ensures { result ≡ zero_extended value }
+{
+    if value >= 1 << 32 {
+        return Err(TooWide);
+    }
+    Ok(Written::Four(value as u32))
 }
