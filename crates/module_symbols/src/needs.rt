@@ -36,11 +36,7 @@ pub fn read_needs(alloc: Global, object: &ObjectView) -> Result<Needs, AllocErro
 
 /// Returns the needs by the version list of the object.
 #[tactic(auto, unfolding(crate::specs::Needs::needs_of))]
-fn needs_by(
-    alloc: Global,
-    object: &ObjectView,
-    versions: &VersionList,
-) -> Result<Needs, AllocError>
+fn needs_by(alloc: Global, object: &ObjectView, versions: &VersionList) -> Result<Needs, AllocError>
     requires { versions.now ≡ version_list object.now }
     ensures { IfOk result (λ needs. needs ≡ needs_of object.now) }
 {

@@ -34,7 +34,10 @@ impl<'a> VersionList<'a> {
     ghost use Rattle.module_symbols.specs.Versions.{stated_version, version_list};
 
     /// Reads the version list of a module. It is empty if the file has none.
-    pub(crate) fn read(alloc: Global, object: &ObjectView<'a>) -> Result<VersionList<'a>, AllocError>
+    pub(crate) fn read(
+        alloc: Global,
+        object: &ObjectView<'a>,
+    ) -> Result<VersionList<'a>, AllocError>
         ensures { IfOk result (λ list. list ≡ version_list object.now) }
     {
         let entries = version_list(alloc, object)?;
