@@ -1,6 +1,6 @@
 -- What the tests of a module say.
-use Rattle.std.proofs.Common.{◌≡◌, ℕ, true, false, List, [], ◌∷◌, length, ltb, None, refl, sym, ap}
-use Rattle.std.proofs.Common.{◌∙◌}
+use Rattle.std.proofs.Common.{◌≡◌, ℕ, true, false, List, [], ◌∷◌, length, ltb, Option, Some, None}
+use Rattle.std.proofs.Common.{refl, sym, ap, ◌∙◌}
 use Rattle.km_names.specs.First.{first}
 use Rattle.km_names.specs.Path.{is_compressed}
 use Rattle.elf_object.specs.Object.{FileObject, file_object, object_fault}
@@ -8,7 +8,7 @@ use Rattle.elf_sections.specs.Shape.{fault_if}
 use Rattle.module_facts.specs.declared.facts.Facts.{Facts}
 use Rattle.module_facts.specs.declared.fault.ModuleFault.TheVariants.{BadVersions}
 use Rattle.module_symbols.specs.Exports.{exports_of}
-use Rattle.module_facts.specs.Facts.{object_facts}
+use Rattle.module_facts.specs.Facts.{facts_of, object_facts}
 use Rattle.module_facts.specs.Module.{IsModule}
 use Rattle.module_facts.specs.Faults.{fact_fault, facts_tests, has_bad_versions, has_good_names}
 use Rattle.module_facts.specs.Faults.{module_tests, space_test, twice_test, undefined_test}
@@ -60,3 +60,17 @@ IsModule-read path b o f object facts passed =
           ∙ ap (λ p. object_facts p (file_object o.file)) (sym at);
       passed = rw (at, file) passed;
     }
+
+-- if no test fails, none does after the first
+pub passed-on : {X : Type 0} (test : Option X) (tests : List (Option X))
+    → first (test ∷ tests) ≡ None → first tests ≡ None
+passed-on None tests passed = passed
+passed-on (Some fault) tests passed = cc
+
+-- if all tests of a module pass, the tests of its facts do
+pub facts-pass : (path bytes : List ℕ) → fact_fault path bytes ≡ None
+    → first (facts_tests (file_object bytes) (facts_of path bytes)) ≡ None
+unfolding fact_fault module_tests
+facts-pass path bytes passed =
+    passed-on _ (facts_tests (file_object bytes) (facts_of path bytes))
+    (passed-on _ (_ ∷ facts_tests (file_object bytes) (facts_of path bytes)) passed)

@@ -13,7 +13,8 @@ use Rattle.kernel_exports.specs.SymversLines.{symvers_line}
 use Rattle.kernel_exports.specs.TableLines.{refused_line, stated}
 use Rattle.kernel_exports.proofs.ExportSteps.{addresses-apart}
 use Rattle.stages_files.specs.KernelTable.{Table, seen_kernel}
-use Rattle.stages_loads.specs.Tables.{firsts-apart, kernel_with}
+use Rattle.kernel_exports.proofs.FirstSteps.{firsts-apart}
+use Rattle.stages_loads.specs.Tables.{kernel_with}
 use Rattle.stages_loads.proofs.TableSteps.{firsts-same}
 
 -- what is stated where nothing is refused

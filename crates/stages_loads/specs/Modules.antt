@@ -1,35 +1,20 @@
 -- The modules that are to be loaded, each read and checked at its turn. modprobe(8),
 -- modules.dep(5).
-use Rattle.std.specs.Prelude.{◌≡◌, ℕ, List, ◌∷◌, Option, Some, None}
+use Rattle.std.specs.Prelude.{◌≡◌, ℕ, List, Option, Some, None}
 use Rattle.std.proofs.Common.{refl}
-use Rattle.km_names.specs.First.{first}
 use Rattle.km_names.specs.Path.{path_below, is_compressed}
 use Rattle.elf_object.specs.Object.{file_object}
 use Rattle.module_facts.specs.declared.fault.ModuleFault.{ModuleFault}
 use Rattle.module_facts.specs.declared.module.Module.{Module}
 use Rattle.module_facts.specs.Facts.{facts_of}
-use Rattle.module_facts.specs.Faults.{fact_fault, facts_tests, module_tests}
+use Rattle.module_facts.specs.Faults.{fact_fault}
 use Rattle.module_facts.specs.FaultText.{module_fault_text}
-use Rattle.module_facts.proofs.FaultLemmas.{IsModule-read}
+use Rattle.module_facts.proofs.FaultLemmas.{IsModule-read, facts-pass}
 use Rattle.module_facts.proofs.SoundLemmas.{IsSound-passed}
 use Rattle.km_course.specs.Course.{Outcome, Stage, ◌>>=◌, given, ends, when◌then◌else◌, reads}
 use Rattle.km_course.specs.Course.Outcome.{value, end}
 use Rattle.km_course.specs.declared.end.End.TheVariants.{Refused}
 use Rattle.km_course.specs.declared.refusal.Refusal.TheVariants.{BadModule, Compressed}
-
--- if no test fails, none does after the first
-pub passed-on : {X : Type 0} (test : Option X) (tests : List (Option X))
-    → first (test ∷ tests) ≡ None → first tests ≡ None
-passed-on None tests passed = passed
-passed-on (Some fault) tests passed = cc
-
--- if all tests of a module pass, the tests of its facts do
-pub facts-pass : (path bytes : List ℕ) → fact_fault path bytes ≡ None
-    → first (facts_tests (file_object bytes) (facts_of path bytes)) ≡ None
-unfolding fact_fault module_tests
-facts-pass path bytes passed =
-    passed-on _ (facts_tests (file_object bytes) (facts_of path bytes))
-    (passed-on _ (_ ∷ facts_tests (file_object bytes) (facts_of path bytes)) passed)
 
 -- The module at a path whose file has these bytes, if nothing is wrong with it.
 unfoldable pub module_at : (path bytes : List ℕ) → fact_fault path bytes ≡ None → Module

@@ -1,19 +1,13 @@
 -- The machine that a kernel's tables make: its exports at their addresses, and no module. nm(1);
 -- the kernel's Documentation/kbuild/modules.rst, "Module.symvers".
-use Rattle.std.specs.Prelude.{◌≡◌, ℕ, true, not, Bool, List, [], ◌∷◌, AllPairs, filter, find}
-use Rattle.std.specs.Prelude.{Option, is_none, Some, None, Result, Ok, Err}
+use Rattle.std.specs.Prelude.{ℕ, true, Bool, List, find, Option, is_none, Some, None, Result, Ok, Err}
 use Rattle.std.specs.List.{filter_map}
-use Rattle.std.specs.Str.{bytes_eq}
-use Rattle.std.proofs.Common.{get_or, ap, sym, ◌∙◌, arith}
-use Rattle.std.proofs.lemmas.Bool.{false≢true}
-use Rattle.std.proofs.lemmas.List.Elements.{filter_passes}
-use Rattle.std.proofs.lemmas.List.Kept.{AllPairs-cons, AllPairs-filter}
 use Rattle.kernel_exports.specs.declared.kernel.Kernel.{Kernel}
 use Rattle.kernel_exports.specs.declared.kernel.KernelExport.{KernelExport}
 use Rattle.kernel_exports.specs.KernelTable.{first_of_each, export_of_symbol, exports_of_map}
 use Rattle.kernel_exports.specs.KernelTable.{exports_with_addresses, with_addresses}
 use Rattle.kernel_exports.specs.MapLines.{MapSymbol}
-use Rattle.kernel_exports.proofs.NameSteps.{bytes-refl}
+use Rattle.kernel_exports.proofs.FirstSteps.{firsts-apart}
 use Rattle.module_region.specs.declared.region.Region.{Region}
 use Rattle.model_loader.specs.Machine.{Machine, new_machine}
 use Rattle.km_course.specs.Course.{Outcome, Stage, ◌>>=◌, given, reads}
@@ -21,24 +15,6 @@ use Rattle.km_course.specs.Course.Outcome.{value, end}
 use Rattle.km_course.specs.declared.end.End.TheVariants.{Refused}
 use Rattle.km_course.specs.declared.refusal.Refusal.TheVariants.{BadLine, KernelWithoutAddress}
 use Rattle.stages_files.specs.KernelTable.{Table, table_outcome, reads_map, reads_symvers}
-
--- a name that passes as another isn't this one
-other-name : (e o : KernelExport) → not (bytes_eq o.name e.name) ≡ true → e.name ≡ o.name → ⊥
-other-name e o passed same =
-    false≢true (ap not (sym (ap (λ n. bytes_eq n e.name) (sym same) ∙ bytes-refl e.name)) ∙ passed)
-
--- of the exports of one name only the first is left
-pub firsts-apart : (es : List KernelExport)
-    → AllPairs (λ (a b : KernelExport). a.name ≡ b.name → ⊥) (first_of_each es)
-firsts-apart [] = λ i j d before within. absurd (omega arith)
-firsts-apart (e ∷ es) =
-    let passes : KernelExport → Bool = λ other. not (bytes_eq other.name e.name) in
-    let left = filter passes (first_of_each es) in
-    AllPairs-cons (λ (a b : KernelExport). a.name ≡ b.name → ⊥) e left
-    (λ k d within. other-name e (get_or left k d)
-    (filter_passes passes (first_of_each es) k d within))
-    (AllPairs-filter (λ (a b : KernelExport). a.name ≡ b.name → ⊥) passes (first_of_each es)
-    (firsts-apart es))
 
 -- The kernel of a table. A kernel exports each name once: of the exports of one name the first
 -- counts.
