@@ -160,7 +160,7 @@ fn request_of(alloc: Global, planner: &Planner<'_>, names: &Names) -> Result<Vec
     Ok(places)
 }
 
-/// Names as a set.
+/// Returns the set of these names.
 fn name_set<'a>(alloc: Global, names: &'a [Name]) -> Result<NameSet<'a>, AllocError>
     ensures { IfOk result (λ set. (name : List ℕ) → is_among set name ≡ is_among names.now name) }
 {
