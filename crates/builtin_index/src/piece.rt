@@ -54,7 +54,8 @@ pub(crate) fn field(alloc: Global, parts: Parts) -> Result<BuiltinField, AllocEr
     })
 }
 
-/// Cuts a text at the first such byte, if it has one.
+/// Splits a text at the first place of a byte: what comes before it, and what follows it. The
+/// result is `None` if the text doesn't have the byte.
 fn split_once(text: &[u8], byte: u8) -> Option<(&[u8], &[u8])>
     ensures { option_map (λ parts. (parts.0.now, parts.1.now)) result ≡ cut_at byte text.now }
 {

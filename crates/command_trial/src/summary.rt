@@ -101,7 +101,7 @@ fn push_stated(text: &mut Blob, what: &[u8], shown: &[u8]) -> Result<(), AllocEr
     text.push(b'\n')
 }
 
-/// Adds the image of the module to a digest, if the line says that one was loaded.
+/// Adds to a digest the image of the module that a line says was loaded. Other lines add nothing.
 fn add_image(
     alloc: Global,
     hasher: &mut Sha256,

@@ -184,28 +184,6 @@ fn split_at_space(text: &[u8]) -> (&[u8], Option<&[u8]>)
     }
 }
 
-/// Returns whether a text is the path of a known module.
-fn is_good<'a, K: KnownNames>(
-    paths: &mut GoodTexts<'a>,
-    buffer: &mut Vec<u8>,
-    known: &K,
-    path: &'a [u8],
-) -> Result<bool, AllocError>
-    requires { AreKept (is_good (K.has known.now)) paths.old.slots.items }
-    ensures good { IfOk result (λ good. good ≡ is_good (K.has known.now) path.now) }
-    ensures kept { OnOk result (AreKept (is_good (K.has known.now)) paths.new.slots.items) }
-{
-    let slot = slot_of(path);
-    if paths.has(slot, path) {
-        return Ok(true);
-    }
-    if !is_line_path(path) || !is_known(buffer, known, path)? {
-        return Ok(false);
-    }
-    paths.put(slot, path);
-    Ok(true)
-}
-
 /// Returns whether what follows the `:` of a line is a sequence of paths of known modules, maybe
 /// none, with a space before each.
 fn are_good<'a, K: KnownNames>(
@@ -232,6 +210,39 @@ fn are_good<'a, K: KnownNames>(
     Ok(true)
 }
 
+/// Returns the bytes before the first space of a text, and the rest, which begins with it.
+fn up_to_space(text: &[u8]) -> (&[u8], &[u8])
+    ensures before { result.0.now ≡ before_first (λ b. b == 32) text.now }
+    ensures rest { result.1.now ≡ drop (length result.0.now) text.now }
+{
+    match memchr(b' ', text) {
+        Some(place) => text.split_at(place),
+        None => (text, &text[text.len()..]),
+    }
+}
+
+/// Returns whether a text is the path of a known module.
+fn is_good<'a, K: KnownNames>(
+    paths: &mut GoodTexts<'a>,
+    buffer: &mut Vec<u8>,
+    known: &K,
+    path: &'a [u8],
+) -> Result<bool, AllocError>
+    requires { AreKept (is_good (K.has known.now)) paths.old.slots.items }
+    ensures good { IfOk result (λ good. good ≡ is_good (K.has known.now) path.now) }
+    ensures kept { OnOk result (AreKept (is_good (K.has known.now)) paths.new.slots.items) }
+{
+    let slot = slot_of(path);
+    if paths.has(slot, path) {
+        return Ok(true);
+    }
+    if !is_line_path(path) || !is_known(buffer, known, path)? {
+        return Ok(false);
+    }
+    paths.put(slot, path);
+    Ok(true)
+}
+
 /// Returns whether the module at a path is known. Most names are the same as in their paths, and
 /// aren't copied.
 fn is_known<K: KnownNames>(buffer: &mut Vec<u8>, known: &K, path: &[u8]) -> Result<bool, AllocError>
@@ -243,15 +254,4 @@ fn is_known<K: KnownNames>(buffer: &mut Vec<u8>, known: &K, path: &[u8]) -> Resu
     }
     write_name(buffer, path)?;
     Ok(known.has(buffer.as_slice()))
-}
-
-/// Returns the bytes before the first space of a text, and the rest, which begins with it.
-fn up_to_space(text: &[u8]) -> (&[u8], &[u8])
-    ensures before { result.0.now ≡ before_first (λ b. b == 32) text.now }
-    ensures rest { result.1.now ≡ drop (length result.0.now) text.now }
-{
-    match memchr(b' ', text) {
-        Some(place) => text.split_at(place),
-        None => (text, &text[text.len()..]),
-    }
 }

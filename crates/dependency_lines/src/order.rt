@@ -57,7 +57,7 @@ pub(crate) fn number_of(lines: &Lines<'_>, name: &[u8]) -> Option<usize>
     None
 }
 
-/// Lists the first places.
+/// Lists the places below a count, in order.
 fn first_places(alloc: Global, count: usize) -> Result<Vec<usize>, AllocError>
     ensures { IfOk result (λ places. AreFirst count places.items) }
 {
@@ -68,7 +68,8 @@ fn first_places(alloc: Global, count: usize) -> Result<Vec<usize>, AllocError>
     Ok(places)
 }
 
-/// Finds the same. A number that no module has gets the count of modules.
+/// Finds for each number the place of its module, or the count of modules if no module has it. The
+/// result is `None` if a number isn't below the count, or if two modules have it.
 fn places_or_count(alloc: Global, lines: &Lines<'_>) -> Result<Option<Vec<usize>>, AllocError>
     ensures { IfOk result
         (λ found. IfSome found (λ places. ArePlaces lines.now places.items (length lines.now))) }

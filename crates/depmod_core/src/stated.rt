@@ -127,51 +127,6 @@ pub(crate) fn stated_map(
     Ok(map)
 }
 
-/// Returns the aliases of a module that can be used.
-fn aliases(alloc: Global, facts: &Facts) -> Result<Vec<Statement<'_>>, AllocError>
-    ensures { IfOk result
-        (λ stated. stated.items ≡ map (statement StatedKind.Alias) (aliases_of facts.now)) }
-{
-    let mut usable = Vec::new(alloc);
-    for alias in facts.aliases.as_slice() {
-        if let Some(stated) = usable_alias(alloc, alias.as_bytes())? {
-            usable.push(stated)?;
-        }
-    }
-    Ok(usable)
-}
-
-/// Returns the texts of a module's softdeps that can be used. They have no keys.
-fn softdeps(alloc: Global, facts: &Facts) -> Result<Vec<Statement<'_>>, AllocError>
-    ensures { IfOk result
-        (λ stated. stated.items ≡ map (statement StatedKind.Softdep) (softdeps_of facts.now)) }
-{
-    let mut usable = Vec::new(alloc);
-    for text in facts.softdeps.as_slice() {
-        let text = text.as_bytes();
-        if is_usable_softdep(text) {
-            usable.push(Statement { text, key: None })?;
-        }
-    }
-    Ok(usable)
-}
-
-/// Returns the names of the symbols that a module exports.
-fn symbols(alloc: Global, facts: &Facts) -> Result<Vec<Statement<'_>>, AllocError>
-    ensures { IfOk result
-        (λ stated. stated.items ≡ map (statement StatedKind.Symbol) (symbols_of facts.now)) }
-{
-    let mut names = Vec::new(alloc);
-    for export in facts.exports.as_slice() {
-        let text = export.name.as_bytes();
-        names.push(Statement {
-            text,
-            key: Some(symbol_key(alloc, text)?),
-        })?;
-    }
-    Ok(names)
-}
-
 /// Collects what the modules of a tree state of a kind.
 fn all_stated(
     alloc: Global,
@@ -226,46 +181,6 @@ fn add_values(
     Ok(())
 }
 
-/// Returns an alias with its normal form, if it can be used: it is a word of visible characters,
-/// and has a normal form.
-#[tactic(auto, unfolding(crate::specs::Stated::is_usable_alias))]
-fn usable_alias(alloc: Global, alias: &[u8]) -> Result<Option<Statement<'_>>, AllocError>
-    ensures { IfOk result
-        (λ found. found
-        ≡ (if is_usable_alias alias.now
-        then Some (statement StatedKind.Alias alias.now)
-        else None)) }
-{
-    if !is_graphic(alias) {
-        return Ok(None);
-    }
-    match normal_alias(alloc, alias)? {
-        Some(form) => Ok(Some(Statement {
-            text: alias,
-            key: Some(Blob::from_vec(form.into_vec())),
-        })),
-        None => Ok(None),
-    }
-}
-
-/// Returns whether the text of a softdep can be used. It has only visible characters and spaces, at
-/// least one character that isn't a space, and no mark of continuation at its end.
-#[tactic(auto, unfolding(crate::specs::Stated::is_usable_softdep))]
-fn is_usable_softdep(text: &[u8]) -> bool
-    ensures { result ≡ is_usable_softdep text.now }
-{
-    is_printable(text) && !is_spaces(text) && !text.ends_with(b"\\")
-}
-
-/// Returns the key of a symbol.
-fn symbol_key(alloc: Global, symbol: &[u8]) -> Result<Blob, AllocError>
-    ensures { IfOk result (λ key. key ≡ codes "symbol:" ++ symbol.now) }
-{
-    let mut key = Blob::from_slice(alloc, b"symbol:")?;
-    key.extend(symbol)?;
-    Ok(key)
-}
-
 /// Returns what a module states of a kind.
 fn stated_by(
     alloc: Global,
@@ -310,16 +225,49 @@ fn put_lines(
     Ok(())
 }
 
-fn is_printable(text: &[u8]) -> bool
-    ensures { result ≡ list_all is_printable text.now }
+/// Returns the aliases of a module that can be used.
+fn aliases(alloc: Global, facts: &Facts) -> Result<Vec<Statement<'_>>, AllocError>
+    ensures { IfOk result
+        (λ stated. stated.items ≡ map (statement StatedKind.Alias) (aliases_of facts.now)) }
 {
-    text.iter().all(|b| b.is_ascii_graphic() || *b == b' ')
+    let mut usable = Vec::new(alloc);
+    for alias in facts.aliases.as_slice() {
+        if let Some(stated) = usable_alias(alloc, alias.as_bytes())? {
+            usable.push(stated)?;
+        }
+    }
+    Ok(usable)
 }
 
-fn is_spaces(text: &[u8]) -> bool
-    ensures { result ≡ list_all (λ b. b == 32) text.now }
+/// Returns the texts of a module's softdeps that can be used. They have no keys.
+fn softdeps(alloc: Global, facts: &Facts) -> Result<Vec<Statement<'_>>, AllocError>
+    ensures { IfOk result
+        (λ stated. stated.items ≡ map (statement StatedKind.Softdep) (softdeps_of facts.now)) }
 {
-    text.iter().all(|b| *b == b' ')
+    let mut usable = Vec::new(alloc);
+    for text in facts.softdeps.as_slice() {
+        let text = text.as_bytes();
+        if is_usable_softdep(text) {
+            usable.push(Statement { text, key: None })?;
+        }
+    }
+    Ok(usable)
+}
+
+/// Returns the names of the symbols that a module exports.
+fn symbols(alloc: Global, facts: &Facts) -> Result<Vec<Statement<'_>>, AllocError>
+    ensures { IfOk result
+        (λ stated. stated.items ≡ map (statement StatedKind.Symbol) (symbols_of facts.now)) }
+{
+    let mut names = Vec::new(alloc);
+    for export in facts.exports.as_slice() {
+        let text = export.name.as_bytes();
+        names.push(Statement {
+            text,
+            key: Some(symbol_key(alloc, text)?),
+        })?;
+    }
+    Ok(names)
 }
 
 /// Puts a line of the module of this name.
@@ -332,4 +280,56 @@ fn put_line(text: &mut Text, kind: StatedKind, name: &[u8], stated: &[u8]) -> Re
         StatedKind::Softdep => text.put_all(&[b"softdep ", name, b" ", stated, b"\n"]),
         StatedKind::Symbol => text.put_all(&[b"alias symbol:", stated, b" ", name, b"\n"]),
     }
+}
+
+/// Returns an alias with its normal form, if it can be used: it is a word of visible characters,
+/// and has a normal form.
+#[tactic(auto, unfolding(crate::specs::Stated::is_usable_alias))]
+fn usable_alias(alloc: Global, alias: &[u8]) -> Result<Option<Statement<'_>>, AllocError>
+    ensures { IfOk result
+        (λ found. found
+        ≡ (if is_usable_alias alias.now
+        then Some (statement StatedKind.Alias alias.now)
+        else None)) }
+{
+    if !is_graphic(alias) {
+        return Ok(None);
+    }
+    match normal_alias(alloc, alias)? {
+        Some(form) => Ok(Some(Statement {
+            text: alias,
+            key: Some(Blob::from_vec(form.into_vec())),
+        })),
+        None => Ok(None),
+    }
+}
+
+/// Returns whether the text of a softdep can be used. It has only visible characters and spaces, at
+/// least one character that isn't a space, and no mark of continuation at its end.
+#[tactic(auto, unfolding(crate::specs::Stated::is_usable_softdep))]
+fn is_usable_softdep(text: &[u8]) -> bool
+    ensures { result ≡ is_usable_softdep text.now }
+{
+    is_printable(text) && !is_spaces(text) && !text.ends_with(b"\\")
+}
+
+/// Returns the key of a symbol.
+fn symbol_key(alloc: Global, symbol: &[u8]) -> Result<Blob, AllocError>
+    ensures { IfOk result (λ key. key ≡ codes "symbol:" ++ symbol.now) }
+{
+    let mut key = Blob::from_slice(alloc, b"symbol:")?;
+    key.extend(symbol)?;
+    Ok(key)
+}
+
+fn is_printable(text: &[u8]) -> bool
+    ensures { result ≡ list_all is_printable text.now }
+{
+    text.iter().all(|b| b.is_ascii_graphic() || *b == b' ')
+}
+
+fn is_spaces(text: &[u8]) -> bool
+    ensures { result ≡ list_all (λ b. b == 32) text.now }
+{
+    text.iter().all(|b| *b == b' ')
 }

@@ -142,7 +142,8 @@ fn section_name(names: &[u8], kind: u32, at: u32) -> &[u8]
     }
 }
 
-/// Returns whether the section is in the memory of the running module.
+/// Returns whether a section of this type, with these flags and this name, is in the memory of the
+/// running module.
 #[tactic(auto, unfolding(crate::specs::Shape::is_kept))]
 fn is_kept(kind: u32, flags: u64, name: &[u8]) -> bool
     ensures { result ≡ is_kept kind flags name.now }

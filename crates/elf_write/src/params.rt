@@ -100,7 +100,7 @@ fn linked_params(alloc: Global, params: &[SheetParam]) -> Result<Linked, AllocEr
     Ok(Linked { names, addresses })
 }
 
-/// Puts the loaded sections and the texts at the end.
+/// Puts the sections that are loaded at the end: `.data`, `__param` and `.modinfo`.
 fn push_loaded(
     alloc: Global,
     parts: &mut Vec<Part>,

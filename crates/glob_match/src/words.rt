@@ -152,7 +152,7 @@ pub(crate) fn keep_others(words: &mut [u64], listed: &[u64])
     }
 }
 
-/// Has one place alone.
+/// Adds one place, and drops all others.
 pub(crate) fn set_only(words: &mut [u64], place: usize)
     requires { place / 64 < length words.old }
     ensures { HasBits words.new (λ n. n == place) }
@@ -161,7 +161,7 @@ pub(crate) fn set_only(words: &mut [u64], place: usize)
     words[place / BITS] = 1 << (place % BITS);
 }
 
-/// Returns whether some place is in both. The bits of the first words begin at a place.
+/// Returns whether two sets share a place. The bits of `reached` begin at the place `first`.
 pub(crate) fn meet(reached: &[u64], first: usize, words: &[u64]) -> bool
     requires { first + BITS * length reached.now < 2 ^ 64 }
     ensures { (some other : ℕ → Bool) → HasPlaces first reached.now some → HasBits words.now other

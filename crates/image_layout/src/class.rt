@@ -38,7 +38,7 @@ pub(crate) fn is_in(class: Class, section: &Section) -> bool
     section.kept && are_one(class, class_of(section))
 }
 
-/// Returns whether the two classes are the same.
+/// Returns whether two classes are the same.
 fn are_one(class: Class, other: Class) -> bool
     ensures { result ≡ is_class class other }
 {

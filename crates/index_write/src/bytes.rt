@@ -86,7 +86,7 @@ fn write_node(
     Ok(())
 }
 
-/// Returns the offset for a byte, and 0 if no child has it.
+/// Returns the offset of the link with this byte, or 0 if no link has it.
 fn offset_of(links: &[ChildLink], byte: usize) -> u32
     ensures { result ≡ offset (links_of links.now) byte }
 {

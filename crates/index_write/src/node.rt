@@ -61,7 +61,8 @@ pub(crate) fn nodes<'a>(
     Ok(nodes)
 }
 
-/// Returns the root.
+/// Returns the root of the tree of these entries, and puts the groups of its children after the
+/// pending ones.
 fn root_of<'e, 'a>(
     entries: &'e [KeyEntry<'a>],
     pending: &mut Vec<Group<'e, 'a>>,
@@ -124,7 +125,7 @@ fn push_groups<'e, 'a>(
     Ok(())
 }
 
-/// Returns the values of the key that ends here.
+/// Returns the values of the key that has only `depth` bytes. There are none if no key is so short.
 fn ending<'a>(entries: &[KeyEntry<'a>], depth: usize) -> &'a [StoredValue]
     ensures { shown_values result.now ≡ ending (at_depth depth entries.now) }
 {
@@ -171,7 +172,7 @@ fn common_prefix<'a>(entries: &[KeyEntry<'a>], depth: usize) -> &'a [u8]
     &prefix[..common]
 }
 
-/// Returns how many entries end here: the first one or none.
+/// Returns how many of the keys have only `depth` bytes: the first one or none.
 fn ended(entries: &[KeyEntry], depth: usize) -> usize
     ensures count { result ≡ ended (at_depth depth entries.now) }
     ensures within { result ≤ length entries.now }

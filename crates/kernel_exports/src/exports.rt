@@ -117,7 +117,8 @@ fn add_first<'a>(
     Ok(())
 }
 
-/// Makes the export of an entry of this name, at the address that symbols state for it.
+/// Makes the export of the name N that a symbol `__ksymtab_N` states, at the address of the symbol
+/// N, if there is one.
 fn entry_export(alloc: Global, name: &[u8], symbols: &SystemMap) -> Result<KernelExport, AllocError>
     ensures { IfOk result
         (λ export. export ≡ with_its_address symbols.now (export_of_entry name.now)) }

@@ -40,19 +40,6 @@ pub(crate) fn list_folder<R: rt::Files + AllocGlobal + Clone + Drop, K>(
     rising(alloc, found)
 }
 
-/// Returns the paths in rising order, each once.
-fn rising<K>(alloc: Global, mut found: Vec<Vec<u8>>) -> Result<List<Bytes<K>>, FileAnswer>
-    ensures rising { IfOk result (λ names. IsStrictlySortedBy by_bytes names) }
-    ensures kept { (p : List ℕ → Bool) → All (λ path. p path.items ≡ true) found.items
-        → IfOk result (λ names. All (λ name. p name ≡ true) names) }
-    ensures limit { IfOk result (λ names. length names ≤ vec_len found) }
-    ensures memory { IfErr result (λ answer. answer ≡ Memory) }
-{
-    found.sort()?;
-    found.dedup();
-    Ok(as_list(alloc, found)?)
-}
-
 /// Returns what is found below the folder, in no order.
 fn find<R: rt::Files + AllocGlobal + Clone + Drop>(
     rt: &R,
@@ -79,15 +66,17 @@ fn find<R: rt::Files + AllocGlobal + Clone + Drop>(
     Ok(walk.found)
 }
 
-/// Converts the paths to a list.
-fn as_list<K>(alloc: Global, paths: Vec<Vec<u8>>) -> Result<List<Bytes<K>>, AllocError>
-    ensures { IfOk result (λ list. list ≡ map (λ path. path.items) paths.items) }
+/// Returns the paths in rising order, each once.
+fn rising<K>(alloc: Global, mut found: Vec<Vec<u8>>) -> Result<List<Bytes<K>>, FileAnswer>
+    ensures rising { IfOk result (λ names. IsStrictlySortedBy by_bytes names) }
+    ensures kept { (p : List ℕ → Bool) → All (λ path. p path.items ≡ true) found.items
+        → IfOk result (λ names. All (λ name. p name ≡ true) names) }
+    ensures limit { IfOk result (λ names. length names ≤ vec_len found) }
+    ensures memory { IfErr result (λ answer. answer ≡ Memory) }
 {
-    let mut list = List::new(alloc);
-    for path in paths {
-        list.push(Bytes::from_vec(path))?;
-    }
-    Ok(list)
+    found.sort()?;
+    found.dedup();
+    Ok(as_list(alloc, found)?)
 }
 
 /// A walk through a folder and, if all files are listed, the folders below it.
@@ -200,6 +189,17 @@ impl Walk {
         }
         Ok(())
     }
+}
+
+/// Converts the paths to a list.
+fn as_list<K>(alloc: Global, paths: Vec<Vec<u8>>) -> Result<List<Bytes<K>>, AllocError>
+    ensures { IfOk result (λ list. list ≡ map (λ path. path.items) paths.items) }
+{
+    let mut list = List::new(alloc);
+    for path in paths {
+        list.push(Bytes::from_vec(path))?;
+    }
+    Ok(list)
 }
 
 /// Returns the answer to an error of the system below the folder that is listed, when the folder

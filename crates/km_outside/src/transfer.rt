@@ -77,8 +77,8 @@ fn lengthen(buffer: &mut Vec<u8>, length: usize) -> Result<(), AllocError>
     buffer.resize(length, 0)
 }
 
-/// Runs one turn: makes room after the filled part, and reads some bytes into it. No bytes means
-/// the end.
+/// Runs one turn of a read: makes room after the filled part, and reads some bytes into the room.
+/// At the end no bytes are read.
 fn read_more<R: Read>(reader: &mut R, buffer: &mut Vec<u8>, filled: usize) -> io::Result<usize>
     requires within { filled ≤ vec_len buffer.old }
     requires below_limit { filled ≤ file_limit }

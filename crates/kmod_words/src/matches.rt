@@ -69,7 +69,7 @@ pub(crate) fn bytes_of<K>(
     }
 }
 
-/// Copies that value, or `other` if there is none.
+/// Copies the value of an option, or the one word of a name, or `other` if the words have neither.
 pub(crate) fn bytes_or<K>(
     alloc: Global,
     matches: &ArgMatches<'_>,

@@ -189,8 +189,8 @@ fn remove_rule(named: Named) -> Rule
     }
 }
 
-/// Returns the names after each such marker in a text of words, up to the next marker of either
-/// kind.
+/// Returns the names that a text of words has after the marker `pre:` or `post:`, whichever is
+/// given. They go from each place of the marker up to the next marker of either kind.
 fn names_after(alloc: Global, text: &[u8], marker: &[u8]) -> Result<Names, AllocError>
     requires { IsTrue (is_marker marker.now) }
     ensures { IfOk result

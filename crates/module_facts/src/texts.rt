@@ -9,7 +9,8 @@ use km_names::{Blob, Name, Names, Texts, split_at_byte};
 use modinfo_fields::value_of;
 use std::alloc::{AllocError, Global};
 
-/// Returns whether the first of these licenses is free. Without a license it isn't.
+/// Returns whether a module with these licenses may use GPL-only symbols, by the first of them. A
+/// module without a license may not.
 #[tactic(auto, unfolding(crate::specs::Facts::is_free))]
 pub(crate) fn is_free(licenses: &Texts) -> bool
     ensures { result ≡ is_free licenses.now }

@@ -76,7 +76,7 @@ fn extended_sections<'a>(object: &ObjectView<'a>) -> Option<Extended<'a>>
     Some(Extended { crcs, names })
 }
 
-/// Returns the version list of the extended form.
+/// Returns the version list that `__version_ext_crcs` and `__version_ext_names` state together.
 fn extended_list<'a>(
     alloc: Global,
     crcs: &[u8],
@@ -99,7 +99,7 @@ fn extended_list<'a>(
     Ok(list)
 }
 
-/// Returns the version list of the entries.
+/// Returns the version list that the entries of `__versions` state.
 #[tactic(auto, unfolding(crate::specs::Versions::entry_list))]
 fn entry_list<'a>(alloc: Global, bytes: &'a [u8]) -> Result<Versions<'a>, AllocError>
     requires { length bytes.now ≤ file_limit }
@@ -125,7 +125,8 @@ fn is_bad_extended(crcs: &[u8], names: &[u8]) -> bool
     crcs.len() % NUMBER != 0 || nul_count(names) < crcs.len() / NUMBER
 }
 
-/// Returns whether the entries are invalid: the last isn't whole, or a name has no NUL.
+/// Returns whether the entries of `__versions` are invalid: the last isn't whole, or a name has no
+/// NUL.
 #[tactic(auto, unfolding(crate::specs::Versions::are_bad_entries))]
 fn are_bad_entries(bytes: &[u8]) -> bool
     requires { length bytes.now ≤ file_limit }

@@ -13,7 +13,7 @@ use elf_object::{Object, RelaPlace};
 use image_layout::Layout;
 use std::alloc::{AllocError, Global};
 
-/// Marks this many bytes from a place on, as far as they are among these.
+/// Marks this many bytes from a place on, as far as the list has them.
 pub(crate) fn mark(taken: &mut Vec<bool>, at: u128, size: u64)
     requires { at < 2 ^ 66 }
     ensures same { length taken.new.items ≡ length taken.old.items }
@@ -51,7 +51,7 @@ pub(crate) fn reserved(
     Ok(taken)
 }
 
-/// Returns whether this many bytes from a place on are among these, and none of them is marked.
+/// Returns whether the list has this many bytes from a place on, and none of them is marked.
 pub(crate) fn are_free(taken: &[bool], at: u64, size: usize) -> bool
     requires { size ≤ 8 }
     ensures inside { result ≡ true → at + size ≤ length taken.now }

@@ -125,6 +125,35 @@ fn standing_paths<'a>(alloc: Global, planner: &Planner<'a>) -> Result<NameSet<'a
     Ok(paths)
 }
 
+/// Returns whether a line is an obstacle of a kind.
+fn is_obstacle(kind: LineKind, line: &Unbound, planned: &NameSet<'_>, there: &NameSet<'_>) -> bool
+    ensures { result ≡ is_obstacle kind (is_among planned.now) (is_among there.now) line.now }
+{
+    match (kind, line) {
+        (LineKind::Missing, Unbound::Missing { path, .. })
+        | (LineKind::Gpl, Unbound::Gpl { path, .. })
+        | (LineKind::Version, Unbound::Version { path, .. })
+        | (LineKind::Namespace, Unbound::Namespace { path, .. }) => {
+            planned.contains(path.as_bytes())
+        }
+        (LineKind::Double, Unbound::Double { first, second, .. }) => {
+            collides(planned, there, first.as_bytes(), second.as_bytes())
+        }
+        (
+            LineKind::Missing
+            | LineKind::Gpl
+            | LineKind::Version
+            | LineKind::Namespace
+            | LineKind::Double,
+            Unbound::Missing { .. }
+            | Unbound::Gpl { .. }
+            | Unbound::Version { .. }
+            | Unbound::Namespace { .. }
+            | Unbound::Double { .. },
+        ) => false,
+    }
+}
+
 /// Makes an obstacle of a line.
 fn as_obstacle(alloc: Global, line: &Unbound) -> Result<Obstacle, AllocError>
     ensures { IfOk result (λ obstacle. obstacle ≡ as_obstacle (unbound_line line.now)) }
@@ -185,35 +214,6 @@ fn as_obstacle(alloc: Global, line: &Unbound) -> Result<Obstacle, AllocError>
     }
 }
 
-/// Returns whether a line is an obstacle of a kind.
-fn is_obstacle(kind: LineKind, line: &Unbound, planned: &NameSet<'_>, there: &NameSet<'_>) -> bool
-    ensures { result ≡ is_obstacle kind (is_among planned.now) (is_among there.now) line.now }
-{
-    match (kind, line) {
-        (LineKind::Missing, Unbound::Missing { path, .. })
-        | (LineKind::Gpl, Unbound::Gpl { path, .. })
-        | (LineKind::Version, Unbound::Version { path, .. })
-        | (LineKind::Namespace, Unbound::Namespace { path, .. }) => {
-            planned.contains(path.as_bytes())
-        }
-        (LineKind::Double, Unbound::Double { first, second, .. }) => {
-            collides(planned, there, first.as_bytes(), second.as_bytes())
-        }
-        (
-            LineKind::Missing
-            | LineKind::Gpl
-            | LineKind::Version
-            | LineKind::Namespace
-            | LineKind::Double,
-            Unbound::Missing { .. }
-            | Unbound::Gpl { .. }
-            | Unbound::Version { .. }
-            | Unbound::Namespace { .. }
-            | Unbound::Double { .. },
-        ) => false,
-    }
-}
-
 /// Returns the paths of some modules.
 fn paths_of<'a>(
     alloc: Global,
@@ -229,6 +229,20 @@ fn paths_of<'a>(
         paths.insert(modules.path(*place))?;
     }
     Ok(paths)
+}
+
+/// Returns whether one of the paths of a double line is planned, and both are planned or loaded
+/// before.
+fn collides(planned: &NameSet<'_>, there: &NameSet<'_>, first: &[u8], second: &[u8]) -> bool
+    ensures { (symbol : List ℕ) → result
+        ≡ collides (λ path. is_among planned.now path || is_among there.now path)
+        (is_among planned.now) (Unbound.Double symbol first.now second.now) }
+{
+    let has_first = planned.contains(first);
+    let has_second = planned.contains(second);
+    (has_first || has_second)
+        && (has_first || there.contains(first))
+        && (has_second || there.contains(second))
 }
 
 /// Copies a path and a symbol.
@@ -253,20 +267,6 @@ fn pair_copy(
 {
     let (path, symbol) = need_copy(alloc, path, symbol)?;
     Ok((path, symbol, path_copy(alloc, other)?))
-}
-
-/// Returns whether one of the paths of a double line is planned, and both are planned or loaded
-/// before.
-fn collides(planned: &NameSet<'_>, there: &NameSet<'_>, first: &[u8], second: &[u8]) -> bool
-    ensures { (symbol : List ℕ) → result
-        ≡ collides (λ path. is_among planned.now path || is_among there.now path)
-        (is_among planned.now) (Unbound.Double symbol first.now second.now) }
-{
-    let has_first = planned.contains(first);
-    let has_second = planned.contains(second);
-    (has_first || has_second)
-        && (has_first || there.contains(first))
-        && (has_second || there.contains(second))
 }
 
 fn path_copy(alloc: Global, path: &PathText) -> Result<PathText, AllocError>

@@ -125,6 +125,17 @@ fn not_found(alloc: Global, name: &Name) -> Result<ResolveFault, AllocError>
     })
 }
 
+/// Returns the names of all that was found.
+fn names_in<'a>(alloc: Global, founds: &'a [Found]) -> Result<Vec<&'a Name>, AllocError>
+    ensures { IfOk result (λ names. texts names.items ≡ all_names founds.now) }
+{
+    let mut names = Vec::new(alloc);
+    for found in founds {
+        push_all(&mut names, &found.names)?;
+    }
+    Ok(names)
+}
+
 /// Returns whether a member is unknown: no module, no install rule, and not built in.
 fn is_unknown(planner: &Planner<'_>, ignored: bool, name: &[u8]) -> bool
     ensures { result ≡ is_unknown (sources_of planner.now) ignored name.now }
@@ -138,17 +149,6 @@ fn is_unknown(planner: &Planner<'_>, ignored: bool, name: &[u8]) -> bool
     !planner.is_builtin(name)
 }
 
-/// Returns the names of all that was found.
-fn names_in<'a>(alloc: Global, founds: &'a [Found]) -> Result<Vec<&'a Name>, AllocError>
-    ensures { IfOk result (λ names. texts names.items ≡ all_names founds.now) }
-{
-    let mut names = Vec::new(alloc);
-    for found in founds {
-        push_all(&mut names, &found.names)?;
-    }
-    Ok(names)
-}
-
 /// Finds the places of the names that are modules.
 fn request_of(alloc: Global, planner: &Planner<'_>, names: &Names) -> Result<Vec<usize>, AllocError>
     ensures items { IfOk result
@@ -160,7 +160,7 @@ fn request_of(alloc: Global, planner: &Planner<'_>, names: &Names) -> Result<Vec
     Ok(places)
 }
 
-/// Names as a set.
+/// Returns the set of these names.
 fn name_set<'a>(alloc: Global, names: &'a [Name]) -> Result<NameSet<'a>, AllocError>
     ensures { IfOk result (λ set. (name : List ℕ) → is_among set name ≡ is_among names.now name) }
 {

@@ -23,7 +23,7 @@ pub(crate) enum Side {
     After,
 }
 
-/// Adds names.
+/// Puts more names at the end of a list of names.
 pub(crate) fn push_all<'a>(names: &mut Vec<&'a Name>, more: &'a Names) -> Result<(), AllocError>
     ensures { OnOk result (texts names.new.items ≡ texts names.old.items ++ more.now) }
 {

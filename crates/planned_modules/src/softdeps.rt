@@ -69,7 +69,7 @@ fn nothing_known(alloc: Global, count: usize) -> Result<Vec<Option<bool>>, Alloc
     Ok(known)
 }
 
-/// Adds the names of a rule.
+/// Adds to the table the names that a rule has as soft dependencies.
 fn add_rule<'a>(
     alloc: Global,
     planner: &Planner<'a>,

@@ -44,7 +44,8 @@ impl<'a> Bindings<'a> {
     }
 }
 
-/// Finds the same for each module.
+/// Lists for each module the places of the modules that it uses. `bound` has for each module what
+/// its needs are bound to.
 pub(crate) fn all_used(
     alloc: Global,
     items: &[ExportItem],

@@ -119,7 +119,7 @@ pub(crate) fn names_of(alloc: Global, items: &[ExportItem]) -> Result<OwnedNameT
     Ok(names)
 }
 
-/// Finds the same for the needs of each module.
+/// Finds for each need of each module of a tree the place of the first export of that name.
 pub(crate) fn all_bound(
     alloc: Global,
     names: &OwnedNameTable,

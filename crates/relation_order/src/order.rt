@@ -161,7 +161,7 @@ pub fn least(
     Ok(builder.order)
 }
 
-/// Makes as many zeros.
+/// Makes a list of `count` zeros.
 pub(crate) fn zeros(alloc: Global, count: usize) -> Result<Vec<usize>, AllocError>
     ensures { IfOk result (λ zeros. zeros.items ≡ replicate count 0) }
 {

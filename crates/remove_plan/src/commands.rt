@@ -52,16 +52,6 @@ fn command_at(rules: &[Rule], place: Option<u32>) -> Option<&[u8]>
     }
 }
 
-/// Returns the remove command of the rule.
-fn removing_command(rule: &Rule) -> Option<&[u8]>
-    ensures { option_map (λ command. command.now) result ≡ removing_command rule.now }
-{
-    let Rule::Remove { command, .. } = rule else {
-        return None;
-    };
-    Some(command.as_bytes())
-}
-
 /// Returns the rule at a place, if there is one.
 fn rule_at(rules: &[Rule], place: Option<u32>) -> Option<&Rule>
     ensures { option_copied result ≡ option_and_then (slice_get rules.now) place }
@@ -70,4 +60,14 @@ fn rule_at(rules: &[Rule], place: Option<u32>) -> Option<&Rule>
         Some(place) => rules.get(place as usize),
         None => None,
     }
+}
+
+/// Returns the remove command of the rule.
+fn removing_command(rule: &Rule) -> Option<&[u8]>
+    ensures { option_map (λ command. command.now) result ≡ removing_command rule.now }
+{
+    let Rule::Remove { command, .. } = rule else {
+        return None;
+    };
+    Some(command.as_bytes())
 }

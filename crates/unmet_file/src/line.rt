@@ -84,7 +84,8 @@ fn stated(alloc: Global, form: Form, words: &[u8]) -> Result<Option<Unbound>, Al
     }
 }
 
-/// Returns the two words of a text.
+/// Returns the two words of a text with a space between them, or `None` if the text has another
+/// form. Their bytes are 33 to 126, and neither is empty.
 fn two_words(text: &[u8]) -> Option<(&[u8], &[u8])>
     ensures { option_map (λ w. (w.0.now, w.1.now)) result ≡ two_words text.now }
 {
