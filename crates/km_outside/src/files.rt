@@ -1,3 +1,4 @@
+// The traits of files, and why a call on a file fails.
 ghost use Rattle.std.specs.Prelude.{◌≡◌};
 ghost use Rattle.km_outside.specs.Contents.{is_conf_name, is_path};
 ghost use Rattle.km_outside.specs.FilesSeen.{FilesSeen, ListAnswers, ReadAnswers, ReplaceAnswers};

@@ -1,3 +1,4 @@
+// The trait of an output, and that a write failed.
 ghost use Rattle.km_outside.specs.OutSeen.{OutSeen, Within, WriteAnswers};
 
 /// A write failed.

@@ -1,3 +1,4 @@
+// The outputs of the machine.
 ghost use Rattle.std.specs.Prelude.{◌≡◌};
 ghost use Rattle.km_outside.specs.OutSeen.{WriteAnswers};
 ghost use Rattle.km_outside.specs.StreamSeen.{stream_seen, StreamWrites};

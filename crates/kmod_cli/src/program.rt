@@ -1,3 +1,4 @@
+// The program: the function that follows the course of its words, and those of its commands.
 ghost use Rattle.std.specs.Prelude.{◌≡◌, ◌∷◌, ℕ, List, codes};
 ghost use Rattle.km_outside.specs.FilesSeen.{FilesSeen};
 ghost use Rattle.km_course.specs.World.{world};

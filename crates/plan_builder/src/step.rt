@@ -1,3 +1,4 @@
+// What the steps of a plan do.
 use km_names::{Blob, List, Name, PathText};
 
 /// A step of a plan.

@@ -1,3 +1,4 @@
+// Tables of kernels, and the needs of a module over them.
 ghost use Rattle.std.specs.Prelude.{IfOk};
 ghost use Rattle.provider_rel.specs.Tree.{IsTree, IsTreeModule};
 

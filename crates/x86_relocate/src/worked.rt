@@ -1,3 +1,4 @@
+// Laws about words of relocations, which the check computes.
 ghost use Rattle.std.specs.Prelude.{◌≡◌, negsuc, pos};
 ghost use Rattle.x86_relocate.specs.Word.{word};
 ghost use Rattle.x86_relocate.specs.declared.word.Written.TheVariants.{Eight, Four, Nothing};
