@@ -168,7 +168,9 @@ fn make_pair(
         (λ pair. pair.index
         ≡ content (files_by tree.now (closures_by relation.now) (obstacles_by relation.now)
         builtin.now) second_file) }
-    ensures passed { OnOk result (first (size_fault first_file (content (files_by tree.now (closures_by relation.now) (obstacles_by relation.now) builtin.now) first_file)
+    ensures passed { OnOk result (first (size_fault first_file
+        (content (files_by tree.now (closures_by relation.now) (obstacles_by relation.now)
+        builtin.now) first_file)
         ∷ size_fault second_file
         (content (files_by tree.now (closures_by relation.now) (obstacles_by relation.now)
         builtin.now) second_file)
