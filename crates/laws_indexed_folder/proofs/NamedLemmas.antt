@@ -65,7 +65,7 @@ from-reverse : {X : Type 0} (x : X) (xs : List X) → Member x (reverse xs) → 
 from-reverse x [] in' = in'
 from-reverse x (y ∷ ys) in' =
     elim (Member-cases x (reverse ys) (y ∷ [])
-        (subst (Member x) (reverse-append (y ∷ []) ys) in')) [
+    (subst (Member x) (reverse-append (y ∷ []) ys) in')) [
       | inl early ↦ inr (from-reverse x ys early)
       | inr last ↦ own last
     ]

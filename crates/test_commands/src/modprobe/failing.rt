@@ -8,8 +8,7 @@ use std::alloc::Global;
 use std::process::Abort;
 
 /// A load of `b` whose images are put.
-const LOAD: &str =
-    "modprobe -d /r -S 6.1.0 --system-map /r/System.map --symvers /r/Module.symvers \
+const LOAD: &str = "modprobe -d /r -S 6.1.0 --system-map /r/System.map --symvers /r/Module.symvers \
      --image /r/img b";
 
 /// What it writes before the loads.
@@ -17,15 +16,13 @@ const PLANNED: &str =
     "insmod /r/lib/modules/6.1.0/kernel/a.ko\ninsmod /r/lib/modules/6.1.0/kernel/b.ko\n";
 
 /// What it writes before the load of `b`.
-const A_LOADED: &str =
-    "insmod /r/lib/modules/6.1.0/kernel/a.ko\n\
+const A_LOADED: &str = "insmod /r/lib/modules/6.1.0/kernel/a.ko\n\
      insmod /r/lib/modules/6.1.0/kernel/b.ko\n\
      loaded a ffffffffc0000000 8192 \
      c6c95917cef2d89bf138a45b46ef4155f44b4dba3fdef5bd3e0dd145c1741227\n";
 
 /// What it writes in all.
-const BOTH_LOADED: &str =
-    "insmod /r/lib/modules/6.1.0/kernel/a.ko\n\
+const BOTH_LOADED: &str = "insmod /r/lib/modules/6.1.0/kernel/a.ko\n\
      insmod /r/lib/modules/6.1.0/kernel/b.ko\n\
      loaded a ffffffffc0000000 8192 \
      c6c95917cef2d89bf138a45b46ef4155f44b4dba3fdef5bd3e0dd145c1741227\n\
