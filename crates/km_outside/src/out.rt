@@ -1,4 +1,4 @@
-// The trait of an output, and that a write failed.
+// The trait of outputs, and the failure of a write.
 ghost use Rattle.km_outside.specs.OutSeen.{OutSeen, Within, WriteAnswers};
 
 /// A write failed.

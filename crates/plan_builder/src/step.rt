@@ -1,4 +1,4 @@
-// What the steps of a plan do.
+// One step of a plan, and lists of steps.
 use km_names::{Blob, List, Name, PathText};
 
 /// A step of a plan.
