@@ -1,3 +1,4 @@
+// The course of builtin-alias.
 ghost use Rattle.std.specs.Prelude.{◌≡◌, ◌++◌, IfOk, OnOk, map};
 ghost use Rattle.km_course.specs.FollowsOn.{FollowsOnFilesAndOut, Returns};
 ghost use Rattle.name_table.specs.FirstSeen.{first_seen};

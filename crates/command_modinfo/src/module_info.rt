@@ -1,3 +1,4 @@
+// What modinfo shows of the module at a path.
 ghost use Rattle.std.specs.Prelude.{◌≡◌, IfOk, codes, option_copied};
 ghost use Rattle.modinfo_tool.specs.Show.{shown_text};
 ghost use Rattle.command_modinfo.specs.ModuleInfo.{bytes_named, module_fields};

@@ -1,3 +1,4 @@
+// The course of modprobe.
 ghost use Rattle.std.specs.Prelude.{⊤};
 ghost use Rattle.km_course.specs.FollowsOn.{FollowsOnFilesAndOut};
 ghost use Rattle.command_modprobe.specs.Modprobe.{modprobe_course, modprobe_in_mode};

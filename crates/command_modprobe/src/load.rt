@@ -54,7 +54,8 @@ fn load_known<F: Writes, O: Out>(
     out: &mut O,
 ) -> Result<(), Stop>
     ensures { FollowsOnFilesAndOut
-        (loads_known basis.now.folder images.now basis.now.request system_map symvers region basis.now.known)
+        (loads_known basis.now.folder images.now basis.now.request system_map symvers region
+        basis.now.known)
         F.seen files.old files.new O.seen out.old out.new result }
 {
     let machine = read_machine(alloc, system_map, symvers, region, files)?;

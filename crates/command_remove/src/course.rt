@@ -1,3 +1,4 @@
+// The course of a removal: the files that it reads, and its steps.
 ghost use Rattle.std.specs.Prelude.{◌≡◌, List, length};
 ghost use Rattle.km_course.specs.FollowsOn.{FollowsOnFilesAndOut, FollowsOnOut};
 ghost use Rattle.module_facts.specs.declared.module.Module.{Module};

@@ -1,3 +1,4 @@
+// The course of static-nodes.
 ghost use Rattle.std.specs.Prelude.{◌≤◌, length};
 ghost use Rattle.km_names.specs.Limit.{file_limit};
 ghost use Rattle.km_course.specs.FollowsOn.{FollowsOnFiles, FollowsOnFilesAndOut, Returns};

@@ -1,5 +1,5 @@
 -- What a command inside a trial resulted in, as its conclusion says. The command is this project's
--- own.
+-- own. It belongs to the code: no public meaning rests on it.
 use Rattle.std.specs.Prelude.{◌≡◌, ℕ, List}
 use Rattle.km_course.specs.Course.{Outcome}
 use Rattle.km_course.specs.Course.Outcome.{value, end}

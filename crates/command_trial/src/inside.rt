@@ -24,7 +24,8 @@ const ROOM: usize = 4_194_304;
 pub(crate) fn index_made(alloc: Global, files: &mut MemFiles) -> Result<MemOut, Stop>
     requires { no_kind_listed files.old.kinds ≡ true }
     ensures left { Answers (λ out. record { files = files.new.contents; out = out.bytes })
-        (inner_outcome inner_room ((depmod_course depmod_words).run files.old.contents) files.old.contents) result }
+        (inner_outcome inner_room ((depmod_course depmod_words).run files.old.contents)
+        files.old.contents) result }
     ensures sure { IfOk result (λ out. no_kind_listed files.new.kinds ≡ true) }
 {
     let words = depmod_words(alloc)?;
@@ -43,7 +44,8 @@ pub(crate) fn index_made(alloc: Global, files: &mut MemFiles) -> Result<MemOut, 
 pub(crate) fn load_made(alloc: Global, count: u32, files: &mut MemFiles) -> Result<MemOut, Stop>
     requires { no_kind_listed files.old.kinds ≡ true }
     ensures { Answers (λ out. record { files = files.new.contents; out = out.bytes })
-        (inner_outcome inner_room ((modprobe_course (modprobe_words count)).run files.old.contents) files.old.contents) result }
+        (inner_outcome inner_room ((modprobe_course (modprobe_words count)).run files.old.contents)
+        files.old.contents) result }
 {
     let words = modprobe_words(alloc, count)?;
     let mut out = MemOut::with_room(alloc, ROOM)?;

@@ -1,3 +1,4 @@
+// The contents of all files that depmod makes.
 ghost use Rattle.std.specs.Prelude.{◌≡◌, ◌⊎◌, [], ◌∷◌, Ok, Err, Some, None, length, IfOk, IfErr};
 ghost use Rattle.std.specs.Prelude.{OnOk};
 ghost use Rattle.km_names.specs.First.{first};
@@ -167,7 +168,9 @@ fn make_pair(
         (λ pair. pair.index
         ≡ content (files_by tree.now (closures_by relation.now) (obstacles_by relation.now)
         builtin.now) second_file) }
-    ensures passed { OnOk result (first (size_fault first_file (content (files_by tree.now (closures_by relation.now) (obstacles_by relation.now) builtin.now) first_file)
+    ensures passed { OnOk result (first (size_fault first_file
+        (content (files_by tree.now (closures_by relation.now) (obstacles_by relation.now)
+        builtin.now) first_file)
         ∷ size_fault second_file
         (content (files_by tree.now (closures_by relation.now) (obstacles_by relation.now)
         builtin.now) second_file)

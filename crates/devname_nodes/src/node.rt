@@ -1,3 +1,4 @@
+// Device nodes, and those of the modules of a tree.
 ghost use Rattle.std.specs.Prelude.{◌≡◌, IfOk};
 ghost use Rattle.devname_nodes.specs.Nodes.{node_of, nodes_of, is_comment};
 

@@ -1,3 +1,4 @@
+// The lines of device nodes, and the text of modules.devname.
 ghost use Rattle.std.specs.Prelude.{◌≡◌, ◌++◌, ◌∷◌, [], IfOk, OnOk};
 ghost use Rattle.devname_nodes.specs.Line.{node_line};
 ghost use Rattle.devname_nodes.specs.File.{lines_text, nodes_text};

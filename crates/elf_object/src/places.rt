@@ -159,8 +159,8 @@ fn check_overlaps(
         (first (each (section_count sections.now.file) (overlap_test sections.now.file)) ≡ None) }
     ensures fault { IfErr result
         (λ e. (e ≡ ObjectFault.Memory)
-        ⊎
-        (first (each (section_count sections.now.file) (overlap_test sections.now.file)) ≡ Some e)) }
+        ⊎ (first (each (section_count sections.now.file) (overlap_test sections.now.file))
+        ≡ Some e)) }
 {
     match find_shared(alloc, places, order)? {
         None => Ok(()),

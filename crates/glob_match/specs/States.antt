@@ -1,5 +1,5 @@
 -- What holds of the places of a text that are kept.
--- It belongs to the code: no public meaning rests on it.
+-- The contract of `Progress` cites it; no lookup does.
 use Rattle.std.specs.Prelude.{◌≡◌, ℕ, ◌+◌, ◌-◌, ◌/◌, ◌≤◌, vec_len}
 use Rattle.glob_match.specs.declared.state.State.{State}
 

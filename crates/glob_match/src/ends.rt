@@ -1,3 +1,4 @@
+// The ends of a text that a pattern in a file matches, for one place in each block of the file.
 ghost use Rattle.std.specs.Prelude.{◌≡◌, ℕ, ◌+◌, ◌*◌, ◌/◌, ◌<◌, ◌≤◌, ◌&&◌, ◌||◌, Bool, List};
 ghost use Rattle.std.specs.Prelude.{length, vec_len, OnOk, IfSome};
 ghost use Rattle.glob_match.specs.Words.{HasBits};

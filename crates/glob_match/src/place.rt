@@ -1,3 +1,4 @@
+// The sets of a pattern that is read byte by byte: whether one is open, and its last bytes.
 ghost use Rattle.std.specs.Prelude.{◌≡◌, IfSome};
 ghost use Rattle.glob_match.specs.declared.place.Place.TheVariants.{Inside};
 ghost use Rattle.glob_match.specs.declared.place.Pending.TheVariants.{Low};

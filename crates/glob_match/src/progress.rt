@@ -1,3 +1,4 @@
+// The progress of a pattern that is read byte by byte, and progress that was saved.
 ghost use Rattle.std.specs.Prelude.{◌≡◌, ℕ, ◌+◌, ◌-◌, ◌<◌, ◌≤◌, ◌^◌, take, drop, List, [], ◌∷◌};
 ghost use Rattle.std.specs.Prelude.{◌++◌, IfOk, IfSome, OnOk, IsTrue, ◌↔◌, length};
 ghost use Rattle.glob_pattern.specs.Pattern.{Matches};

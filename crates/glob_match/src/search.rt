@@ -1,3 +1,4 @@
+// The match of a whole text, which takes no memory.
 ghost use Rattle.std.specs.Prelude.{◌≡◌, ◌↔◌, IsTrue};
 ghost use Rattle.glob_match.specs.Decision.{is_match};
 ghost use Rattle.glob_pattern.specs.Pattern.{Matches};

@@ -1,3 +1,4 @@
+// The bytes that a set in brackets has.
 ghost use Rattle.std.specs.Prelude.{◌≡◌, ◌↔◌, ◌<◌, [], IsTrue, MatchOption};
 ghost use Rattle.glob_match.specs.Front.{BeginsWith};
 ghost use Rattle.glob_pattern.specs.Pattern.{Has, Lists};

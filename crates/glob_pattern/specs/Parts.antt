@@ -1,5 +1,5 @@
 -- The parts of a pattern, as the code reads them. Each part takes a run of bytes or one byte.
--- It belongs to the code: no public meaning rests on it.
+-- The contract of `Progress` in `glob_match` cites it; no lookup does.
 use Rattle.std.specs.Prelude.{ℕ, ◌==◌, ◌&&◌, ◌||◌, not, nat_le, Bool, true, false, List, [], ◌∷◌}
 use Rattle.std.specs.Prelude.{◌++◌, length, Option, Some, None, if◌then◌else◌}
 use Rattle.std.specs.Option.{option_map}

@@ -1,3 +1,4 @@
+// Small files, as laws that the check computes.
 ghost use Rattle.std.specs.Prelude.{◌≡◌, Some, None, [], ◌∷◌, ◌++◌, codes};
 ghost use Rattle.index_format.specs.Node.{root};
 ghost use Rattle.index_format.specs.Walk.{at, visits};

@@ -1,3 +1,4 @@
+// The nodes of a file, and their names.
 use std::marker::Model;
 
 /// The name of a node of a file: the offset that leads to it.

@@ -33,6 +33,7 @@ abbrev pub IsReached : List ℕ → KeyWalk → Option Node → Type 0
 IsReached b w None = Unit {0}
 IsReached b w (Some node) = IsNodeOf b node × IsWalking b w
 
+-- The root, if it is still to be looked at, is a node of this file.
 abbrev pub IsRoot : List ℕ → Option Node → Type 0
 IsRoot b None = Unit {0}
 IsRoot b (Some root) = IsNodeOf b root

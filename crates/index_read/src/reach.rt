@@ -1,3 +1,4 @@
+// The node at which a key ends.
 ghost use Rattle.std.specs.Prelude.{◌≡◌, ◌+◌, [], ◌∷◌, length, drop, nat_eq, true, false, None};
 ghost use Rattle.std.specs.Prelude.{IfSome, MatchOption, option_map};
 ghost use Rattle.std.specs.List.{starts_with};

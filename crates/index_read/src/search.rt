@@ -1,3 +1,4 @@
+// A search for the keys of an index that match a text as patterns.
 ghost use Rattle.std.specs.Prelude.{◌≡◌, ℕ, ◌+◌, ◌-◌, ◌≤◌, ◌∷◌, ◌++◌, List, [], length, take, drop};
 ghost use Rattle.std.specs.Prelude.{IfOk, OnOk, IsTrue, ◌↔◌, None, true, false};
 ghost use Rattle.index_format.specs.Check.{index_fault};

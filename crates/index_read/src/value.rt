@@ -1,3 +1,4 @@
+// The values of an index, with and without their keys.
 ghost use Rattle.std.specs.Prelude.{◌≡◌, ◌++◌, map, OnOk};
 ghost use Rattle.index_format.specs.Node.{values};
 ghost use Rattle.index_nodes.specs.Fields.{link_of, IsNodeOf};

@@ -1,3 +1,4 @@
+// A walk over all nodes of an index, in the order of their keys.
 ghost use Rattle.std.specs.Prelude.{◌≡◌, ℕ, List, ◌+◌, ◌≤◌, ◌∷◌, ◌++◌, [], length, IfOk, OnOk};
 ghost use Rattle.std.specs.Prelude.{Some, None};
 ghost use Rattle.index_format.specs.Check.{index_fault};

@@ -84,7 +84,8 @@ found-other p key es h out = ap (λ o. unwrap_or o []) (none es h)
     none : (es : List Entry) → AllFront p es → find R key es ≡ None
     none [] h = refl
     none (e ∷ es) h =
-        elim (R key e.0) as (λ o. R key e.0 ≡ o → cond (is_eq o) (Some e.1) (find R key es) ≡ None) [
+        elim (R key e.0) as (λ o. R key e.0 ≡ o
+        → cond (is_eq o) (Some e.1) (find R key es) ≡ None) [
           | Less ↦ λ q. none es h.1
           | Equal ↦ λ q. absurd
               (true_false (sym (ap (λ k. starts_with nat_eq k p) (same_key key e.0 q ∙ h.0.1)

@@ -1,3 +1,4 @@
+// The file of a map.
 ghost use Rattle.std.specs.Prelude.{◌≡◌, ℕ, ◌≤◌, ◌<◌, ◌-◌, ◌^◌, min, length, IfOk, OnOk, Err};
 ghost use Rattle.km_names.specs.Limit.{file_limit};
 ghost use Rattle.index_format.specs.File.{file};

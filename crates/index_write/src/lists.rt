@@ -1,3 +1,4 @@
+// The values of one key, in their order.
 ghost use Rattle.std.specs.Prelude.{◌≡◌, ◌≤◌, ℕ, List, [], ◌∷◌, OnOk, OnErr, IfOk, length, insert};
 ghost use Rattle.std.specs.Prelude.{string_bytes};
 ghost use Rattle.index_format.specs.Map.{place};

@@ -1,3 +1,4 @@
+// The nodes of the tree of a map, in the order of the file.
 ghost use Rattle.std.specs.Prelude.{◌≡◌, ◌≤◌, ◌<◌, ◌+◌, ◌^◌, [], ◌∷◌, ◌++◌, length, take, drop};
 ghost use Rattle.std.specs.Prelude.{map, OnOk, IfOk, IfNone, IfSome};
 ghost use Rattle.index_format.specs.Tree.{common, common_prefix, ending, groups, tree, Rises};

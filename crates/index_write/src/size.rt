@@ -1,3 +1,4 @@
+// The size of a file, by its nodes.
 ghost use Rattle.std.specs.Prelude.{◌≡◌, ◌+◌, ◌-◌, ◌^◌, min, map, sum_by};
 ghost use Rattle.index_format.specs.declared.numbers.TheConstants.{FIRST_PLACE};
 ghost use Rattle.index_write.specs.Lists.{shown_values};

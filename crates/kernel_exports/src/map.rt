@@ -136,7 +136,8 @@ impl<'a> SystemMap<'a> {
         ensures short { IfOk result (λ symbols. length symbols ≤ file_limit) }
         ensures passed { OnOk result (refused_line map_line bytes.now ≡ None) }
         ensures err { IfErr result (λ fault. (fault ≡ KernelFault.Memory)
-            ⊎ (option_map KernelFault.BadKernelLine (refused_line map_line bytes.now) ≡ Some fault)) }
+            ⊎ (option_map KernelFault.BadKernelLine (refused_line map_line bytes.now)
+            ≡ Some fault)) }
     {
         let lines: Vec<MapLine<'a>> = read_lines(alloc, bytes)?;
         let globals = table_of_globals(alloc, &lines)?;

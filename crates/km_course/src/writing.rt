@@ -1,3 +1,4 @@
+// What a command writes: to its outputs, and whole files.
 ghost use Rattle.std.specs.Prelude.{⊤};
 ghost use Rattle.km_course.specs.Course.{says, says_any, warns, puts};
 ghost use Rattle.km_course.specs.FollowsOn.{FollowsOnErr, FollowsOnFiles, FollowsOnOut};

@@ -1,3 +1,4 @@
+// The normal form of aliases and of their patterns.
 ghost use Rattle.std.specs.Prelude.{◌≡◌, IfOk};
 ghost use Rattle.km_names.specs.AliasForm.{normal_alias, normal_or_itself};
 

@@ -1,3 +1,4 @@
+// Lists of bytes by their kind: texts, names, paths and aliases.
 ghost use Rattle.std.specs.Prelude.{◌≡◌, ◌≤◌, ◌↔◌, ◌==◌, [], ◌∷◌, ◌++◌, length, map, IsNone, OnOk};
 ghost use Rattle.std.specs.Prelude.{OnErr, IfOk, slice_get, option_copied};
 ghost use Rattle.std.specs.List.{flat_map};

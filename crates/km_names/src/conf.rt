@@ -1,3 +1,4 @@
+// Configuration files and their lines, and why they are refused.
 ghost use Rattle.std.specs.Prelude.{◌≡◌};
 
 use crate::{Blob, List, PathText};

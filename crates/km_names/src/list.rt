@@ -1,3 +1,4 @@
+// Lists that contracts see as the list of their items.
 ghost use Rattle.std.specs.Prelude.{◌≡◌, ◌≤◌, ◌↔◌, ◌==◌, [], ◌∷◌, ◌++◌, length, IsNone, OnOk};
 ghost use Rattle.std.specs.Prelude.{OnErr, slice_get, option_copied};
 

@@ -1,3 +1,4 @@
+// Paths, and the names of modules in them.
 ghost use Rattle.std.specs.Prelude.{◌≡◌, ◌==◌, IfOk};
 ghost use Rattle.std.specs.List.{before_first, after_last};
 ghost use Rattle.km_names.specs.Path.{underscored, module_name, is_compressed, without_end_slashes};

@@ -1,3 +1,4 @@
+// White space: texts without it at their ends, and the words between it.
 ghost use Rattle.std.specs.Prelude.{◌≡◌, ◌≤◌, ◌++◌, ◌∷◌, [], length, IfOk, OnOk};
 ghost use Rattle.std.specs.List.{position_or_len};
 ghost use Rattle.km_names.specs.Space.{is_space, trimmed, trimmed_start, trimmed_end, first_word};

@@ -1,3 +1,4 @@
+// A text split at a byte.
 ghost use Rattle.std.specs.Prelude.{◌≡◌, ◌==◌};
 ghost use Rattle.std.specs.List.{before_first, after_first};
 

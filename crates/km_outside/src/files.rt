@@ -1,3 +1,4 @@
+// The traits of files, and why a call on a file fails.
 ghost use Rattle.std.specs.Prelude.{◌≡◌};
 ghost use Rattle.km_outside.specs.Contents.{is_conf_name, is_path};
 ghost use Rattle.km_outside.specs.FilesSeen.{FilesSeen, ListAnswers, ReadAnswers, ReplaceAnswers};
@@ -109,7 +110,8 @@ pub trait Reads {
 pub trait Writes: Reads {
     /// Puts a file of these bytes at the path, in place of what was there: whole, or not at all.
     fn replace(&mut self, alloc: Global, path: &PathText, bytes: &[u8]) -> Result<(), ReplaceAnswer>
-        ensures answers { ReplaceAnswers path.now bytes.now (Self.seen self.old) (Self.seen self.new) result };
+        ensures answers { ReplaceAnswers path.now bytes.now
+            (Self.seen self.old) (Self.seen self.new) result };
 }
 
 /// Everything that the program does with files.
@@ -117,5 +119,6 @@ pub trait Files: Writes {
     /// Returns the paths of the files below the folder at every depth, relative to it, each once
     /// and rising by bytes, if they are no more than [`LIST_LIMIT`].
     fn list_tree(&mut self, alloc: Global, dir: &PathText) -> Result<Paths, FileAnswer>
-        ensures answers { ListAnswers is_path dir.now (Self.seen self.old) (Self.seen self.new) result };
+        ensures answers { ListAnswers is_path dir.now
+            (Self.seen self.old) (Self.seen self.new) result };
 }

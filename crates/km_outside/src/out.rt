@@ -1,3 +1,4 @@
+// The trait of outputs, and the failure of a write.
 ghost use Rattle.km_outside.specs.OutSeen.{OutSeen, Within, WriteAnswers};
 
 /// A write failed.

@@ -1,3 +1,4 @@
+// Outputs over the library's writers: the standard output and the standard error output.
 ghost use Rattle.std.specs.Prelude.{◌≡◌};
 ghost use Rattle.km_outside.specs.OutSeen.{WriteAnswers};
 ghost use Rattle.km_outside.specs.StreamSeen.{stream_seen, StreamWrites};

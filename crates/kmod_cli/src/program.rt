@@ -1,3 +1,4 @@
+// The program: the function that follows the course of its words, and those of its commands.
 ghost use Rattle.std.specs.Prelude.{◌≡◌, ◌∷◌, ℕ, List, codes};
 ghost use Rattle.km_outside.specs.FilesSeen.{FilesSeen};
 ghost use Rattle.km_course.specs.World.{world};
@@ -181,7 +182,8 @@ fn modinfo<F: Reads, O: Out, E: Out>(
 /// in memory. It makes no call on files.
 fn trial<O: Out, E: Out>(alloc: Global, words: &[Word], out: &mut O, err: &mut E) -> u8
     ensures { (files : FilesSeen) → Carries (trial_course words.now)
-        (world files (O.seen out.old) (E.seen err.old)) (world files (O.seen out.new) (E.seen err.new)) result }
+        (world files (O.seen out.old) (E.seen err.old))
+        (world files (O.seen out.new) (E.seen err.new)) result }
 {
     let outcome = command_trial::trial(alloc, words, out);
     conclude(alloc, outcome, err)

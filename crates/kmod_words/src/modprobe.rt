@@ -1,3 +1,4 @@
+// What modprobe is asked for.
 ghost use Rattle.std.specs.Prelude.{T};
 ghost use Rattle.kmod_words.specs.Modes.{goes_with};
 ghost use Rattle.module_region.specs.Regions.{IsRegion};

@@ -91,7 +91,8 @@ fn asked_by(
 ) -> Result<Option<ModprobeWords>, AllocError>
     ensures { IfOk result (λ asked. asked
         ≡ if_passed (options_go (rows_of (found_of matches.now)) choice.now.mode)
-        (modprobe_of (rows_of (found_of matches.now)) choice.now.mode choice.now.version.now choice.now.region)) }
+        (modprobe_of (rows_of (found_of matches.now)) choice.now.mode choice.now.version.now
+        choice.now.region)) }
 {
     if options_go(matches, choice.mode) {
         Ok(Some(words_for(alloc, matches, choice)?))

@@ -64,7 +64,8 @@ either-key q (p ∷ ps) = go (bytes_eq q p.0) refl (either-key q ps)
 from-reverse : {X : Type 0} (x : X) (xs : List X) → Member x (reverse xs) → Member x xs
 from-reverse x [] in' = in'
 from-reverse x (y ∷ ys) in' =
-    elim (Member-cases x (reverse ys) (y ∷ []) (subst (Member x) (reverse-append (y ∷ []) ys) in')) [
+    elim (Member-cases x (reverse ys) (y ∷ [])
+    (subst (Member x) (reverse-append (y ∷ []) ys) in')) [
       | inl early ↦ inr (from-reverse x ys early)
       | inr last ↦ own last
     ]

@@ -1,3 +1,4 @@
+// The form of a dependency line, and the paths that it may have.
 ghost use Rattle.std.specs.Prelude.{◌≡◌, ◌==◌, drop, length, option_copied};
 ghost use Rattle.std.specs.List.{before_first, list_any, slice_split};
 ghost use Rattle.mod_tree.specs.DependencyLine.{is_separator, is_line_path, are_needed, line_path};

@@ -1,3 +1,4 @@
+// The choice of the tree from the listed paths.
 ghost use Rattle.std.specs.Prelude.{◌≡◌, ◌⊎◌, filter, IfOk, IfErr, option_copied};
 ghost use Rattle.std.specs.List.{list_any};
 ghost use Rattle.mod_tree.specs.Tree.{tree_of, is_module_path, is_bad_byte, lesser, bad_path};

@@ -86,7 +86,8 @@ fn described_all(
     kinds: &Told<'_>,
 ) -> Result<Texts, AllocError>
     ensures { IfOk result (λ values. values
-        ≡ map (λ name. described name (told_in texts.now name) (told_in kinds.now name)) names.now) }
+        ≡ map (λ name. described name (told_in texts.now name) (told_in kinds.now name))
+        names.now) }
 {
     let mut values = Texts::new(alloc);
     for i in 0..names.len() {

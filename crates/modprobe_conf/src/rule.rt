@@ -1,3 +1,4 @@
+// The rules of modprobe.d(5), and the lines that state them.
 ghost use Rattle.std.specs.Prelude.{◌≡◌, ◌++◌, ◌∷◌, [], IfOk, IsTrue, OnOk, map};
 ghost use Rattle.km_names.specs.Path.{underscored};
 ghost use Rattle.km_names.specs.Space.{nonempty, words};

@@ -94,7 +94,8 @@ impl Claims {
         ensures same { OnOk result (length self.new.taken.items ≡ length self.old.taken.items) }
         ensures count { OnOk result (length self.new.named.items ≡ length self.old.named.items) }
         ensures inside { OnOk result (param.now.at + width ≤ length self.old.taken.items) }
-        ensures claims { OnOk result ((o : FileObject) (list : List Parameter) (done : List Setting) (s : Setting)
+        ensures claims { OnOk result
+            ((o : FileObject) (list : List Parameter) (done : List Setting) (s : Setting)
             → AreClaims self.old o list done → slice_get list number ≡ Some param.now
             → value_width param.now ≡ width → s.number ≡ number
             → (is_misplaced o list (length self.old.taken.items) done number param.now ≡ false)

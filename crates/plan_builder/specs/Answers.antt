@@ -1,5 +1,6 @@
 -- What `plan` learns on its way.
--- It belongs to the code: no public meaning rests on it.
+-- It belongs to the code, but for `line_obstacle` and `name_obstacle`: the public conversions into
+-- `Obstacle` cite them.
 use Rattle.std.specs.Prelude.{◌≡◌, ◌<◌, ℕ, Bool, List, [], ◌∷◌, map, All, Option}
 use Rattle.index_format.specs.Listing.{KeyValue}
 use Rattle.symbol_binding.specs.declared.unbound.Unbound.{Unbound}

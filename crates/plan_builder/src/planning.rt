@@ -1,3 +1,4 @@
+// The plan for a request, or its first obstacle.
 ghost use Rattle.std.specs.Prelude.{◌≡◌, ◌<◌, ◌⊎◌, ℕ, List, Some, None, map, length, All, IfOk};
 ghost use Rattle.std.specs.Prelude.{IfErr, OnOk, option_map};
 ghost use Rattle.km_names.specs.First.{first};

@@ -1,3 +1,4 @@
+// One step of a plan, and lists of steps.
 use km_names::{Blob, List, Name, PathText};
 
 /// A step of a plan.

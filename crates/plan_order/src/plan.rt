@@ -1,3 +1,4 @@
+// The order of a plan, or the cycle that keeps the requests from having one.
 ghost use Rattle.std.specs.Prelude.{◌≡◌, [], ℕ, List, length, IfOk};
 ghost use Rattle.relation_order.specs.Sets.{goes, marked as marked_spec, successors};
 ghost use Rattle.relation_order.specs.Answer.{IsAnswer as IsOrderOrCycle};

@@ -81,7 +81,8 @@ fn add_rule<'a>(
     ensures known { OnOk result (KnowsAvailable (sources_of planner.now) known.new.items) }
     ensures table { OnOk result ((names : List (List ℕ))
         → IsSoftTable (sources_of planner.now) names table.old.entries
-        → IsSoftTable (sources_of planner.now) (names ++ soft_names_in rule.now) table.new.entries) }
+        → IsSoftTable (sources_of planner.now) (names ++ soft_names_in rule.now)
+        table.new.entries) }
 {
     match rule {
         Rule::Softdep { pre, post, .. } => {

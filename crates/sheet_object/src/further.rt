@@ -58,7 +58,8 @@ pub(crate) struct Further<'a> {
     places: List<u64>,
     ghost gpl_names: { IsTableOf gpl (map (λ n. Some n) more.now.gpl) },
     ghost space_names: { IsTableOf spaces (map (λ n. Some n) (spaced_names more.now)) },
-    ghost text_places: { places ≡ map (text_place more.now.spaces) (range_with_len 0 (length more.now.spaces)) },
+    ghost text_places: { places
+        ≡ map (text_place more.now.spaces) (range_with_len 0 (length more.now.spaces)) },
 }
 
 impl<'a> Further<'a> {

@@ -1,3 +1,4 @@
+// The object file of a sheet.
 ghost use Rattle.std.specs.Prelude.{◌≡◌, IsTrue, IfOk};
 ghost use Rattle.sheet_object.specs.Sheet.{is_sheet, no_more};
 ghost use Rattle.sheet_object.specs.Object.{object_of, object_more_of};

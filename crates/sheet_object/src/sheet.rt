@@ -1,3 +1,4 @@
+// The contents of an object file: what a sheet lists, and what is listed besides.
 ghost use Rattle.std.specs.Prelude.{◌≡◌};
 ghost use Rattle.sheet_object.specs.Sheet.{no_more};
 

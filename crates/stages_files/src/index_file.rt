@@ -1,3 +1,4 @@
+// The index in a file.
 ghost use Rattle.km_course.specs.FollowsOn.{FollowsOnFiles, Returns};
 ghost use Rattle.index_format.specs.Check.{index_fault};
 ghost use Rattle.stages_files.specs.IndexFile.{index_outcome, reads_index};

@@ -1,3 +1,4 @@
+// The table of the kernel, by its System.map or its Module.symvers.
 ghost use Rattle.std.specs.Prelude.{◌≡◌, ◌≤◌, length};
 ghost use Rattle.km_names.specs.Limit.{file_limit};
 ghost use Rattle.km_course.specs.Follows.{Answers};

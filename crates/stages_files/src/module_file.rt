@@ -1,3 +1,4 @@
+// The sections of the module in a file.
 ghost use Rattle.km_course.specs.FollowsOn.{FollowsOnFiles, Returns};
 ghost use Rattle.elf_sections.specs.Shape.{shape_fault};
 ghost use Rattle.stages_files.specs.ModuleFile.{reads_sections, sections_outcome};

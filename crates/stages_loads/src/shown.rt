@@ -87,7 +87,8 @@ fn show_image<F: Writes, O: Out>(
     out: &mut O,
 ) -> Result<(), Stop>
     ensures { FollowsOnFilesAndOut
-        (shows_image (option_copied folder.entry) (record { name = name.now; image = image.now; line = line.now }))
+        (shows_image (option_copied folder.entry)
+        (record { name = name.now; image = image.now; line = line.now }))
         F.seen files.old files.new O.seen out.old out.new result }
 {
     put_image(alloc, folder, name, image, files)?;

@@ -1,3 +1,4 @@
+// The obstacles to loading the modules of a tree.
 use km_names::{List, Name, PathText};
 
 /// An obstacle to loading a module of a tree: a line of modules.unmet. Paths are the tree's; the

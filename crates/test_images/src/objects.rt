@@ -67,7 +67,8 @@ static ONE_OF_EACH: [(usize, &[u8]); 46] = [
     (288, b"\x17\0\0\0 "),
     (
         313,
-        b"__ksymtab_f\0__crc_f\0f\0printk\0\0\0\0.text\0.data\0.modinfo\0__versions\0.rela.data\0.symtab\0.strtab\0.shstrtab",
+        b"__ksymtab_f\0__crc_f\0f\0printk\0\0\0\0.text\0.data\0.modinfo\0__versions\0.rela.data\0\
+          .symtab\0.strtab\0.shstrtab",
     ),
     (480, b"\x01\0\0\0\x01\0\0\0\x06"),
     (504, b"@"),
@@ -136,11 +137,13 @@ static MORE: [(usize, &[u8]); 79] = [
     (400, b"O\0\0\0\x10"),
     (
         425,
-        b"__ksymtab_f\0__crc_f\0__ksymtab_g\0__kstrtabns_g\0__ksymtab_h\0__kstrtabns_h\0f\0g\0h\0printk",
+        b"__ksymtab_f\0__crc_f\0__ksymtab_g\0__kstrtabns_g\0__ksymtab_h\0__kstrtabns_h\0f\0g\0h\0\
+          printk",
     ),
     (
         513,
-        b".text\0.data\0.modinfo\0__versions\0.rela.data\0.symtab\0.strtab\0.shstrtab\0__version_ext_crcs\0__version_ext_names\0__ksymtab_gpl\0__ksymtab_strings",
+        b".text\0.data\0.modinfo\0__versions\0.rela.data\0.symtab\0.strtab\0.shstrtab\0\
+          __version_ext_crcs\0__version_ext_names\0__ksymtab_gpl\0__ksymtab_strings",
     ),
     (656, b"\x11\0\0\0\xff\xff\xff\xffprintk"),
     (680, b"NS\0MINE"),

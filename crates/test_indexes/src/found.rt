@@ -76,8 +76,10 @@ fn indexes_of(rt: &impl Abort, alloc: Global, (dep, symbols, alias, builtin): Ha
 }
 
 /// Rules of each kind for the name `symbol:f`.
-const RULES: &[u8] =
-    b"alias symbol:? by-rule\ninstall symbol:f /bin/true\nalias symbol:f by_rule\nalias symbol:* last";
+const RULES: &[u8] = b"alias symbol:? by-rule\n\
+    install symbol:f /bin/true\n\
+    alias symbol:f by_rule\n\
+    alias symbol:* last";
 
 /// A command that is only for its loading.
 const INSTALL: &[u8] = b"install symbol:f /bin/true";

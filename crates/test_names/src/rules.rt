@@ -74,12 +74,19 @@ static BAD_LINES: [(&[u8], &[u8], u8, u32); 10] = [
 ];
 
 /// A file with a rule of each kind.
-static RULES: &[u8] =
-    b"alias pci-x[a-b]* snd-hda more\nblacklist u-2 more\noptions b-1 depth=3  raw-x=1\ninstall a /bin/true\nremove a /bin/false -x\n softdep m\tq pre: gone a-v[-] post: late pre: zed";
+static RULES: &[u8] = b"alias pci-x[a-b]* snd-hda more\n\
+    blacklist u-2 more\n\
+    options b-1 depth=3  raw-x=1\n\
+    install a /bin/true\n\
+    remove a /bin/false -x\n softdep m\tq pre: gone a-v[-] post: late pre: zed";
 
 /// Its rules, each as a line.
-static RULES_READ: &[u8] =
-    b"alias snd_hda|pci_x[a-b]*\nblacklist u_2|\noptions b_1|depth=3  raw-x=1\ninstall a|/bin/true\nremove a|/bin/false -x\nsoftdep m| gone a_v[_] zed/ late\n";
+static RULES_READ: &[u8] = b"alias snd_hda|pci_x[a-b]*\n\
+    blacklist u_2|\n\
+    options b_1|depth=3  raw-x=1\n\
+    install a|/bin/true\n\
+    remove a|/bin/false -x\n\
+    softdep m| gone a_v[_] zed/ late\n";
 
 // Reads the rules of two files.
 fn rules_of(

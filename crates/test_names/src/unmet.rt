@@ -7,8 +7,11 @@ use symbol_binding::Unbound;
 use unmet_file::Unmet;
 
 /// A line of each form.
-static EACH_FORM: &[u8] =
-    b"missing kernel/n.ko nosuch\ngpl kernel/b.ko fa kernel/a.ko\nversion kernel/w.ko maybe vmlinux\nnamespace kernel/b.ko fa kernel/a.ko\ndouble x kernel/a.ko kernel/c.ko";
+static EACH_FORM: &[u8] = b"missing kernel/n.ko nosuch\n\
+    gpl kernel/b.ko fa kernel/a.ko\n\
+    version kernel/w.ko maybe vmlinux\n\
+    namespace kernel/b.ko fa kernel/a.ko\n\
+    double x kernel/a.ko kernel/c.ko";
 
 /// Texts, and the number of their first bad line, or 0 where all are good.
 static TEXTS: [(&[u8], u32); 12] = [

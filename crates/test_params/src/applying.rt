@@ -80,7 +80,8 @@ static EDGES: [(&[u8], Answer); 21] = [
         b"a=255 b=0xffff c=4294967295 d=18446744073709551615 e=01777777777777777777777",
         Written(
             5,
-            b"\xff\0\0\0\0\0\0\0\xff\xff\0\0\0\0\0\0\xff\xff\xff\xff\0\0\0\0\xff\xff\xff\xff\xff\xff\xff\xff\xff\xff\xff\xff\xff\xff\xff\xff",
+            b"\xff\0\0\0\0\0\0\0\xff\xff\0\0\0\0\0\0\xff\xff\xff\xff\0\0\0\0\
+              \xff\xff\xff\xff\xff\xff\xff\xff\xff\xff\xff\xff\xff\xff\xff\xff",
         ),
     ),
     (b"a=256", Refused(b"bad value of a")),
@@ -122,7 +123,8 @@ static FORMS: [(&[u8], Answer); 29] = [
         b"f=32767 g=2147483647 h=9223372036854775807 d=0xffffffffffffffff",
         Written(
             4,
-            b"\xff\x7f\0\0\0\0\0\0\xff\xff\xff\x7f\0\0\0\0\xff\xff\xff\xff\xff\xff\xff\x7f\xff\xff\xff\xff\xff\xff\xff\xff",
+            b"\xff\x7f\0\0\0\0\0\0\xff\xff\xff\x7f\0\0\0\0\xff\xff\xff\xff\xff\xff\xff\x7f\
+              \xff\xff\xff\xff\xff\xff\xff\xff",
         ),
     ),
     (b"f=-0x8000", Written(1, b"\0\x80\0")),

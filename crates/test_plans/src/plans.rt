@@ -223,7 +223,10 @@ static STEPS: [PlanRow; 4] = [
         ],
         rules: "softdep m pre: gone avail post: late zed",
         names: &["m"],
-        want: "insmod kernel/avail.ko\ninsmod kernel/late.ko\ninsmod kernel/m.ko\ninsmod kernel/zed.ko\n",
+        want: "insmod kernel/avail.ko\n\
+               insmod kernel/late.ko\n\
+               insmod kernel/m.ko\n\
+               insmod kernel/zed.ko\n",
         ..EMPTY
     },
     PlanRow {

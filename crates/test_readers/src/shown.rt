@@ -11,7 +11,8 @@ const TWO_PARAMETERS: &[u8] =
 
 /// The fields of a module whose parameters are described again and in parts.
 const ODD_PARAMETERS: &[u8] =
-    b"parmtype=late:int\0parm=x:text\0parmtype=x:\0parm=x:other\0parm=bare\0parm=late\0parmtype=x:bool\0";
+    b"parmtype=late:int\0parm=x:text\0parmtype=x:\0parm=x:other\0parm=bare\0parm=late\0\
+      parmtype=x:bool\0";
 
 /// Fields with a key of more than 15 bytes, a key of 15, a piece that is only a key, and a
 /// `filename`.
@@ -33,7 +34,11 @@ static SHOWN: [(&[u8], &[u8], Option<&[u8]>, bool, &[u8]); 12] = [
         TWO_PARAMETERS,
         None,
         false,
-        b"filename:       /m/p.ko\nlicense:        GPL\nalias:          fs-x\nparm:           depth:how deep (int)\nparm:           raw:bool\n",
+        b"filename:       /m/p.ko\n\
+          license:        GPL\n\
+          alias:          fs-x\n\
+          parm:           depth:how deep (int)\n\
+          parm:           raw:bool\n",
     ),
     (
         b"/m/p.ko",
@@ -63,7 +68,10 @@ static SHOWN: [(&[u8], &[u8], Option<&[u8]>, bool, &[u8]); 12] = [
         ODD_PARAMETERS,
         None,
         false,
-        b"filename:       o\nparm:           late: (int)\nparm:           x:text ()\nparm:           bare:\n",
+        b"filename:       o\n\
+          parm:           late: (int)\n\
+          parm:           x:text ()\n\
+          parm:           bare:\n",
     ),
     (
         b"o",
@@ -77,7 +85,13 @@ static SHOWN: [(&[u8], &[u8], Option<&[u8]>, bool, &[u8]); 12] = [
         LONG_KEYS,
         None,
         false,
-        b"filename:       k\nlicense:        GPL\nlone:           \nauthor:         A\nimport_namespace:N\na23456789012345:v\nfilename:       f\n",
+        b"filename:       k\n\
+          license:        GPL\n\
+          lone:           \n\
+          author:         A\n\
+          import_namespace:N\n\
+          a23456789012345:v\n\
+          filename:       f\n",
     ),
     (b"k", LONG_KEYS, Some(b"lone"), false, b"\n"),
     (b"k", LONG_KEYS, Some(b"filename"), true, b"k\0"),

@@ -1,3 +1,4 @@
+// Tables of kernels, and the needs of a module over them.
 ghost use Rattle.std.specs.Prelude.{IfOk};
 ghost use Rattle.provider_rel.specs.Tree.{IsTree, IsTreeModule};
 
@@ -30,8 +31,11 @@ fn is_added(kernel: &mut Kernel, bytes: &[u8]) -> bool {
 }
 
 /// A Module.symvers with two exports of the kernel, the first of them twice, and one of a module.
-static SYMVERS: &[u8] =
-    b"0x11111111\tprintk\tvmlinux\tEXPORT_SYMBOL\n\n0x2\tfa\tkernel/a\tEXPORT_SYMBOL\n0xaB\tfb\tvmlinux\tEXPORT_SYMBOL_GPL\tNS\n0x3\tprintk\tvmlinux\tEXPORT_SYMBOL_GPL\n";
+static SYMVERS: &[u8] = b"0x11111111\tprintk\tvmlinux\tEXPORT_SYMBOL\n\
+    \n\
+    0x2\tfa\tkernel/a\tEXPORT_SYMBOL\n\
+    0xaB\tfb\tvmlinux\tEXPORT_SYMBOL_GPL\tNS\n\
+    0x3\tprintk\tvmlinux\tEXPORT_SYMBOL_GPL\n";
 
 /// A System.map with two addresses of one name.
 static MAP: &[u8] = b"ffffffff81000000 T printk\nffffffff82000000 r __ksymtab_printk\n1 t printk";

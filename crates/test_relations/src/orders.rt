@@ -1,3 +1,4 @@
+// Orders, cycles, reach and closures of small relations.
 ghost use Rattle.std.specs.Prelude.{◌≡◌, ◌<◌, length, All, IfOk};
 ghost use Rattle.relation_order.specs.Search.{Inside};
 

@@ -155,8 +155,8 @@ pub(crate) fn load_b(
 }
 
 /// Where both lie.
-static BOTH: &str =
-    "(Ok(LoadedAt { base: 18446744072635809792, size: 8192 }), Ok(LoadedAt { base: 18446744072635817984, size: 4096 }))";
+static BOTH: &str = "(Ok(LoadedAt { base: 18446744072635809792, size: 8192 }), \
+     Ok(LoadedAt { base: 18446744072635817984, size: 4096 }))";
 
 /// What the machine says of `a`, and of a module that isn't loaded.
 static A: &str = r#"(LoadedModule { name: "a", base: 18446744072635809792, size: 8192 }, None)"#;

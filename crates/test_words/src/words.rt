@@ -80,11 +80,13 @@ static MODPROBE: [(&str, &str); 13] = [
         r#"ModprobeWords { mode: DryRun, all: true, use_blacklist: true, ignore_install: true, dirname: "/", version: "6.1.0", config: None, loaded: None, system_map: None, symvers: None, region_base: 18446744072635809792, region_size: 1056964608, image: None, params: false, words: List { elements: ["b", "c"] } }"#,
     ),
     (
-        "--all --use-blacklist --ignore-install --show-depends --dirname=/r --set-version=6.1.0 --config=c --loaded=l --symvers=s --image=i b",
+        "--all --use-blacklist --ignore-install --show-depends --dirname=/r --set-version=6.1.0 \
+         --config=c --loaded=l --symvers=s --image=i b",
         r#"ModprobeWords { mode: ShowDepends, all: true, use_blacklist: true, ignore_install: true, dirname: "/r", version: "6.1.0", config: Some("c"), loaded: Some("l"), system_map: None, symvers: Some("s"), region_base: 18446744072635809792, region_size: 1056964608, image: Some("i"), params: false, words: List { elements: ["b"] } }"#,
     ),
     (
-        "-d /r -S 6.1.0 --system-map /r/System.map --symvers /r/Module.symvers --region 0xffffffffc0000000:0x3000 b",
+        "-d /r -S 6.1.0 --system-map /r/System.map --symvers /r/Module.symvers \
+         --region 0xffffffffc0000000:0x3000 b",
         r#"ModprobeWords { mode: Load, all: false, use_blacklist: false, ignore_install: false, dirname: "/r", version: "6.1.0", config: None, loaded: None, system_map: Some("/r/System.map"), symvers: Some("/r/Module.symvers"), region_base: 18446744072635809792, region_size: 12288, image: None, params: false, words: List { elements: ["b"] } }"#,
     ),
     (

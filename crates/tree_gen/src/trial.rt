@@ -1,3 +1,4 @@
+// The made tree of a trial: the kernel's two files, and those of its modules.
 ghost use Rattle.std.specs.Prelude.{◌≡◌, ◌≤◌, ◌<◌, ◌+◌, ℕ, IfOk};
 ghost use Rattle.tree_gen.specs.Trial.{start_of, module_path, module_file, kernel_contents, unused};
 ghost use Rattle.tree_gen.specs.Trial.{trial_files};

@@ -1,3 +1,4 @@
+// Patches, and the image to which they are applied.
 ghost use Rattle.std.specs.Prelude.{◌≡◌, ◌++◌, ◌∷◌, [], ℕ, List, OnOk, OnErr, All, AllPairs};
 ghost use Rattle.std.specs.Prelude.{length, is_ok, take_while};
 ghost use Rattle.std.specs.Option.{option_map};

@@ -1,3 +1,4 @@
+// The word that a relocation writes.
 ghost use Rattle.std.specs.Prelude.{◌≡◌};
 ghost use Rattle.elf_format.specs.Relocation.{IsKnown};
 ghost use Rattle.x86_relocate.specs.Word.{sign_extended, word, zero_extended};

@@ -1,3 +1,4 @@
+// Words of relocations, as laws that the check computes.
 ghost use Rattle.std.specs.Prelude.{◌≡◌, negsuc, pos};
 ghost use Rattle.x86_relocate.specs.Word.{word};
 ghost use Rattle.x86_relocate.specs.declared.word.Written.TheVariants.{Eight, Four, Nothing};

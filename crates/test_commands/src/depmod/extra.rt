@@ -98,7 +98,9 @@ static ROWS: [ExtraRow<'static>; 10] = [
         files: &[SYMVERS],
         extra: [
             NO_KEYS,
-            b"# Device nodes to trigger on-demand module loading.\nloop loop-control b7:0\nfuse fuse c10:229\n",
+            b"# Device nodes to trigger on-demand module loading.\n\
+              loop loop-control b7:0\n\
+              fuse fuse c10:229\n",
         ],
         ..DONE
     },
@@ -116,7 +118,12 @@ static ROWS: [ExtraRow<'static>; 10] = [
         modules: &[("kernel/n.ko", &NEEDS_NOSUCH, &NO_MORE)],
         failing: Failing::Call(CallKind::Replace, 0),
         words: "depmod --extra -n -b /r -E /r/Module.symvers 6.1.0",
-        out: "kernel/n.ko:\n# Aliases extracted from modules themselves.\n# Soft dependencies extracted from modules themselves.\n# Aliases for symbols, used by symbol_request().\nmissing kernel/n.ko nosuch\n# Device nodes to trigger on-demand module loading.\n",
+        out: "kernel/n.ko:\n\
+              # Aliases extracted from modules themselves.\n\
+              # Soft dependencies extracted from modules themselves.\n\
+              # Aliases for symbols, used by symbol_request().\n\
+              missing kernel/n.ko nosuch\n\
+              # Device nodes to trigger on-demand module loading.\n",
         replaced: 0,
         ..DONE
     },

@@ -89,7 +89,9 @@ static BAD_INDEXES: [(&[u8], &str); 2] = [
         "kmod: /r/lib/modules/6.1.0/modules.builtin.alias.bin: bad index magic\n",
     ),
     (
-        b"\xb0\x07\xf4\x57\x00\x02\x00\x01\x20\x00\x00\x0caa\x40\x00\x00\x12\x00\x00\x00\x01\x00\x00\x00\x00x\0",
+        b"\xb0\x07\xf4\x57\x00\x02\x00\x01\x20\x00\x00\x0c\
+          aa\x40\x00\x00\x12\
+          \x00\x00\x00\x01\x00\x00\x00\x00x\0",
         "kmod: /r/lib/modules/6.1.0/modules.builtin.alias.bin: bad index node at 18\n",
     ),
 ];

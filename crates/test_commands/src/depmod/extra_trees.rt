@@ -43,8 +43,9 @@ pub(crate) const TTY: FileRow<'static> = FileRow {
 };
 
 /// The index of that alias.
-pub(crate) const TTY_INDEX: &[u8] =
-    b"\xb0\x07\xf4\x57\x00\x02\x00\x01\x20\x00\x00\x1dty_*\0\x00\x00\x00\x01\x00\x00\x00\x00tty\0tt\xc0\x00\x00\x0c";
+pub(crate) const TTY_INDEX: &[u8] = b"\xb0\x07\xf4\x57\x00\x02\x00\x01\x20\x00\x00\x1d\
+    ty_*\0\x00\x00\x00\x01\x00\x00\x00\x00tty\0\
+    tt\xc0\x00\x00\x0c";
 
 /// Two built-in modules whose aliases match the same name. The one that is seen first states two.
 pub(crate) const TWO_BUILT_IN: FileRow<'static> = FileRow {

@@ -156,12 +156,20 @@ static WRITES: [(u8, &str, &str); 5] = [
     ),
     (
         3,
-        "kernel/a.ko:\nkernel/b.ko: kernel/a.ko\n# Aliases extracted from modules themselves.\n# Soft dependencies extracted from modules themselves.\n",
+        "kernel/a.ko:\n\
+         kernel/b.ko: kernel/a.ko\n\
+         # Aliases extracted from modules themselves.\n\
+         # Soft dependencies extracted from modules themselves.\n",
         "kmod: output fault\n",
     ),
     (
         4,
-        "kernel/a.ko:\nkernel/b.ko: kernel/a.ko\n# Aliases extracted from modules themselves.\n# Soft dependencies extracted from modules themselves.\n# Aliases for symbols, used by symbol_request().\nalias symbol:fa a\n",
+        "kernel/a.ko:\n\
+         kernel/b.ko: kernel/a.ko\n\
+         # Aliases extracted from modules themselves.\n\
+         # Soft dependencies extracted from modules themselves.\n\
+         # Aliases for symbols, used by symbol_request().\n\
+         alias symbol:fa a\n",
         "",
     ),
 ];

@@ -42,7 +42,12 @@ static PLAIN: [IndexRow<'static>; 10] = [
         modules: TWO,
         failing: Failing::Call(CallKind::Replace, 0),
         words: "depmod -n -b /r -E /r/Module.symvers 6.1.0",
-        out: "kernel/a.ko:\nkernel/b.ko: kernel/a.ko\n# Aliases extracted from modules themselves.\n# Soft dependencies extracted from modules themselves.\n# Aliases for symbols, used by symbol_request().\nalias symbol:fa a\n",
+        out: "kernel/a.ko:\n\
+              kernel/b.ko: kernel/a.ko\n\
+              # Aliases extracted from modules themselves.\n\
+              # Soft dependencies extracted from modules themselves.\n\
+              # Aliases for symbols, used by symbol_request().\n\
+              alias symbol:fa a\n",
         replaced: 0,
         ..DONE
     },

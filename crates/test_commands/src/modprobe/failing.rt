@@ -8,20 +8,26 @@ use std::alloc::Global;
 use std::process::Abort;
 
 /// A load of `b` whose images are put.
-const LOAD: &str =
-    "modprobe -d /r -S 6.1.0 --system-map /r/System.map --symvers /r/Module.symvers --image /r/img b";
+const LOAD: &str = "modprobe -d /r -S 6.1.0 --system-map /r/System.map --symvers /r/Module.symvers \
+     --image /r/img b";
 
 /// What it writes before the loads.
 const PLANNED: &str =
     "insmod /r/lib/modules/6.1.0/kernel/a.ko\ninsmod /r/lib/modules/6.1.0/kernel/b.ko\n";
 
 /// What it writes before the load of `b`.
-const A_LOADED: &str =
-    "insmod /r/lib/modules/6.1.0/kernel/a.ko\ninsmod /r/lib/modules/6.1.0/kernel/b.ko\nloaded a ffffffffc0000000 8192 c6c95917cef2d89bf138a45b46ef4155f44b4dba3fdef5bd3e0dd145c1741227\n";
+const A_LOADED: &str = "insmod /r/lib/modules/6.1.0/kernel/a.ko\n\
+     insmod /r/lib/modules/6.1.0/kernel/b.ko\n\
+     loaded a ffffffffc0000000 8192 \
+     c6c95917cef2d89bf138a45b46ef4155f44b4dba3fdef5bd3e0dd145c1741227\n";
 
 /// What it writes in all.
-const BOTH_LOADED: &str =
-    "insmod /r/lib/modules/6.1.0/kernel/a.ko\ninsmod /r/lib/modules/6.1.0/kernel/b.ko\nloaded a ffffffffc0000000 8192 c6c95917cef2d89bf138a45b46ef4155f44b4dba3fdef5bd3e0dd145c1741227\nloaded b ffffffffc0002000 4096 0a0ae56ba2cd70c076737e2ae47ebdd9a5154c842c849bb19266dcee8398c17b\n";
+const BOTH_LOADED: &str = "insmod /r/lib/modules/6.1.0/kernel/a.ko\n\
+     insmod /r/lib/modules/6.1.0/kernel/b.ko\n\
+     loaded a ffffffffc0000000 8192 \
+     c6c95917cef2d89bf138a45b46ef4155f44b4dba3fdef5bd3e0dd145c1741227\n\
+     loaded b ffffffffc0002000 4096 \
+     0a0ae56ba2cd70c076737e2ae47ebdd9a5154c842c849bb19266dcee8398c17b\n";
 
 /// What fails in such a load, its line on err, what was written before, and how many images were
 /// put.

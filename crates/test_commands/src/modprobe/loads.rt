@@ -17,15 +17,25 @@ static TREES: [IndexedRow<'static>; 6] = [
         files: &[SYMVERS, SYSTEM_MAP],
         rows: &[
             (
-                "modprobe -d /r -S 6.1.0 --system-map /r/System.map --symvers /r/Module.symvers --region 0xffffffffc0000000:0x3000 b",
+                "modprobe -d /r -S 6.1.0 --system-map /r/System.map --symvers /r/Module.symvers \
+                 --region 0xffffffffc0000000:0x3000 b",
                 0,
-                "insmod /r/lib/modules/6.1.0/kernel/a.ko\ninsmod /r/lib/modules/6.1.0/kernel/b.ko\nloaded a ffffffffc0000000 8192 c6c95917cef2d89bf138a45b46ef4155f44b4dba3fdef5bd3e0dd145c1741227\nloaded b ffffffffc0002000 4096 0a0ae56ba2cd70c076737e2ae47ebdd9a5154c842c849bb19266dcee8398c17b\n",
+                "insmod /r/lib/modules/6.1.0/kernel/a.ko\n\
+                 insmod /r/lib/modules/6.1.0/kernel/b.ko\n\
+                 loaded a ffffffffc0000000 8192 \
+                 c6c95917cef2d89bf138a45b46ef4155f44b4dba3fdef5bd3e0dd145c1741227\n\
+                 loaded b ffffffffc0002000 4096 \
+                 0a0ae56ba2cd70c076737e2ae47ebdd9a5154c842c849bb19266dcee8398c17b\n",
                 "",
             ),
             (
-                "modprobe -d /r -S 6.1.0 --system-map /r/System.map --symvers /r/Module.symvers --region 0xffffffffc0000000:0x2000 b",
+                "modprobe -d /r -S 6.1.0 --system-map /r/System.map --symvers /r/Module.symvers \
+                 --region 0xffffffffc0000000:0x2000 b",
                 1,
-                "insmod /r/lib/modules/6.1.0/kernel/a.ko\ninsmod /r/lib/modules/6.1.0/kernel/b.ko\nloaded a ffffffffc0000000 8192 c6c95917cef2d89bf138a45b46ef4155f44b4dba3fdef5bd3e0dd145c1741227\n",
+                "insmod /r/lib/modules/6.1.0/kernel/a.ko\n\
+                 insmod /r/lib/modules/6.1.0/kernel/b.ko\n\
+                 loaded a ffffffffc0000000 8192 \
+                 c6c95917cef2d89bf138a45b46ef4155f44b4dba3fdef5bd3e0dd145c1741227\n",
                 "kmod: b: region full, 1 pages\n",
             ),
         ],
@@ -39,7 +49,9 @@ static TREES: [IndexedRow<'static>; 6] = [
         rows: &[(
             "modprobe -d /r -S 6.1.0 --system-map /r/System.map --symvers /r/Module.symvers w",
             0,
-            "insmod /r/lib/modules/6.1.0/kernel/w.ko\nloaded w ffffffffc0000000 4096 2077e1b57a1ac1246f305a7da892b64d4d8c10b0b40b178ace55e5e4c719c5bf\n",
+            "insmod /r/lib/modules/6.1.0/kernel/w.ko\n\
+             loaded w ffffffffc0000000 4096 \
+             2077e1b57a1ac1246f305a7da892b64d4d8c10b0b40b178ace55e5e4c719c5bf\n",
             "",
         )],
         ..INDEXED
@@ -63,13 +75,15 @@ static TREES: [IndexedRow<'static>; 6] = [
         ],
         rows: &[
             (
-                "modprobe -d /r -S 6.1.0 --system-map /r/System.map --symvers /r/Module.symvers --loaded /r/unknown b",
+                "modprobe -d /r -S 6.1.0 --system-map /r/System.map --symvers /r/Module.symvers \
+                 --loaded /r/unknown b",
                 1,
                 "",
                 "kmod: listed module c: not found\n",
             ),
             (
-                "modprobe -d /r -S 6.1.0 --system-map /r/System.map --symvers /r/Module.symvers --loaded /r/needy a",
+                "modprobe -d /r -S 6.1.0 --system-map /r/System.map --symvers /r/Module.symvers \
+                 --loaded /r/needy a",
                 1,
                 "",
                 "kmod: listed module b: missing symbol fa\n",
@@ -111,7 +125,12 @@ static TREES: [IndexedRow<'static>; 6] = [
         rows: &[(
             "modprobe -d /r -S 6.1.0 --system-map /r/System.map --symvers /r/Module.symvers w",
             0,
-            "insmod /r/lib/modules/6.1.0/kernel/p.ko\ninsmod /r/lib/modules/6.1.0/kernel/w.ko\nloaded p ffffffffc0000000 4096 ad7facb2586fc6e966c004d7d1d16b024f5805ff7cb47c7a85dabd8b48892ca7\nloaded w ffffffffc0001000 4096 454ecd26178d36c61f8c5d6016bdf9deba6546aaf5d6b8f40958b9662b1aadad\n",
+            "insmod /r/lib/modules/6.1.0/kernel/p.ko\n\
+             insmod /r/lib/modules/6.1.0/kernel/w.ko\n\
+             loaded p ffffffffc0000000 4096 \
+             ad7facb2586fc6e966c004d7d1d16b024f5805ff7cb47c7a85dabd8b48892ca7\n\
+             loaded w ffffffffc0001000 4096 \
+             454ecd26178d36c61f8c5d6016bdf9deba6546aaf5d6b8f40958b9662b1aadad\n",
             "",
         )],
         ..INDEXED
@@ -128,7 +147,12 @@ static TREES: [IndexedRow<'static>; 6] = [
         rows: &[(
             "modprobe -d /r -S 6.1.0 --system-map /r/System.map --symvers /r/Module.symvers b",
             0,
-            "insmod /r/lib/modules/6.1.0/kernel/a.ko\ninsmod /r/lib/modules/6.1.0/kernel/b.ko\nloaded a ffffffffc0000000 8192 9f1dcbc35c350d6027f98be0f5c8b43b42ca52b7604459c0c42be3aa88913d47\nloaded b ffffffffc0002000 4096 2077e1b57a1ac1246f305a7da892b64d4d8c10b0b40b178ace55e5e4c719c5bf\n",
+            "insmod /r/lib/modules/6.1.0/kernel/a.ko\n\
+             insmod /r/lib/modules/6.1.0/kernel/b.ko\n\
+             loaded a ffffffffc0000000 8192 \
+             9f1dcbc35c350d6027f98be0f5c8b43b42ca52b7604459c0c42be3aa88913d47\n\
+             loaded b ffffffffc0002000 4096 \
+             2077e1b57a1ac1246f305a7da892b64d4d8c10b0b40b178ace55e5e4c719c5bf\n",
             "",
         )],
         ..INDEXED
@@ -137,9 +161,15 @@ static TREES: [IndexedRow<'static>; 6] = [
 
 /// The load of a file system. One of its helpers is listed as loaded.
 const FILE_SYSTEM_LOAD: RowOf<'static> = (
-    "modprobe -d /r -S 6.1.0 --system-map /r/System.map --symvers /r/Module.symvers --loaded /r/loaded --image /r/img fs-ext4",
+    "modprobe -d /r -S 6.1.0 --system-map /r/System.map --symvers /r/Module.symvers \
+     --loaded /r/loaded --image /r/img fs-ext4",
     0,
-    "insmod /r/lib/modules/6.1.0/kernel/fs/jbd2/jbd2.ko\ninsmod /r/lib/modules/6.1.0/kernel/fs/ext4/ext4.ko\nloaded jbd2 ffffffffc0002000 8192 00f1821d7526dd3993c75e7869b3ef740cc34be59dc7c9c0c4ef8995419d91d8\nloaded ext4 ffffffffc0004000 4096 2dc003ea3181922124704cfd3edbbf883011cb4847f826c9f81c61bfd4824b79\n",
+    "insmod /r/lib/modules/6.1.0/kernel/fs/jbd2/jbd2.ko\n\
+     insmod /r/lib/modules/6.1.0/kernel/fs/ext4/ext4.ko\n\
+     loaded jbd2 ffffffffc0002000 8192 \
+     00f1821d7526dd3993c75e7869b3ef740cc34be59dc7c9c0c4ef8995419d91d8\n\
+     loaded ext4 ffffffffc0004000 4096 \
+     2dc003ea3181922124704cfd3edbbf883011cb4847f826c9f81c61bfd4824b79\n",
     "",
 );
 

@@ -12,39 +12,59 @@ use tree_gen::{SheetParam, SheetParams, param_object};
 /// those behind `--` don't, and without `--params` no option is read.
 static LOADS: [RowOf<'static>; 6] = [
     (
-        "modprobe -d /r -S 6.1.0 --system-map /r/System.map --symvers /r/Module.symvers --params p depth=3 raw",
+        "modprobe -d /r -S 6.1.0 --system-map /r/System.map --symvers /r/Module.symvers \
+         --params p depth=3 raw",
         0,
-        "insmod /r/lib/modules/6.1.0/kernel/p.ko depth=3 raw\nloaded p ffffffffc0000000 8192 6151820ecdeb6bb07844315ce71ced3fb4f4185f89f80f3e10b2155caf47a89c\nparams p 2 6185a0327b828bf8b24b4f547689e557ccece9e8bd678b6b9fd183a352e6e744\n",
+        "insmod /r/lib/modules/6.1.0/kernel/p.ko depth=3 raw\n\
+         loaded p ffffffffc0000000 8192 \
+         6151820ecdeb6bb07844315ce71ced3fb4f4185f89f80f3e10b2155caf47a89c\n\
+         params p 2 6185a0327b828bf8b24b4f547689e557ccece9e8bd678b6b9fd183a352e6e744\n",
         "",
     ),
     (
-        "modprobe -d /r -S 6.1.0 --system-map /r/System.map --symvers /r/Module.symvers --params p depth=0x10 nosuch=1 depth=-1",
+        "modprobe -d /r -S 6.1.0 --system-map /r/System.map --symvers /r/Module.symvers \
+         --params p depth=0x10 nosuch=1 depth=-1",
         0,
-        "insmod /r/lib/modules/6.1.0/kernel/p.ko depth=0x10 nosuch=1 depth=-1\nloaded p ffffffffc0000000 8192 6151820ecdeb6bb07844315ce71ced3fb4f4185f89f80f3e10b2155caf47a89c\nparams p 1 99651a817da3400677c474b464b43e5c387c1c2df24d4ccc469a2bdd65d7f516\n",
+        "insmod /r/lib/modules/6.1.0/kernel/p.ko depth=0x10 nosuch=1 depth=-1\n\
+         loaded p ffffffffc0000000 8192 \
+         6151820ecdeb6bb07844315ce71ced3fb4f4185f89f80f3e10b2155caf47a89c\n\
+         params p 1 99651a817da3400677c474b464b43e5c387c1c2df24d4ccc469a2bdd65d7f516\n",
         "",
     ),
     (
-        "modprobe -d /r -S 6.1.0 --system-map /r/System.map --symvers /r/Module.symvers --params p depth=08",
+        "modprobe -d /r -S 6.1.0 --system-map /r/System.map --symvers /r/Module.symvers \
+         --params p depth=08",
         1,
-        "insmod /r/lib/modules/6.1.0/kernel/p.ko depth=08\nloaded p ffffffffc0000000 8192 6151820ecdeb6bb07844315ce71ced3fb4f4185f89f80f3e10b2155caf47a89c\n",
+        "insmod /r/lib/modules/6.1.0/kernel/p.ko depth=08\n\
+         loaded p ffffffffc0000000 8192 \
+         6151820ecdeb6bb07844315ce71ced3fb4f4185f89f80f3e10b2155caf47a89c\n",
         "kmod: p: bad value of depth\n",
     ),
     (
         "modprobe -d /r -S 6.1.0 --system-map /r/System.map --symvers /r/Module.symvers p depth=08",
         0,
-        "insmod /r/lib/modules/6.1.0/kernel/p.ko depth=08\nloaded p ffffffffc0000000 8192 6151820ecdeb6bb07844315ce71ced3fb4f4185f89f80f3e10b2155caf47a89c\n",
+        "insmod /r/lib/modules/6.1.0/kernel/p.ko depth=08\n\
+         loaded p ffffffffc0000000 8192 \
+         6151820ecdeb6bb07844315ce71ced3fb4f4185f89f80f3e10b2155caf47a89c\n",
         "",
     ),
     (
         "modprobe -d /r -S 6.1.0 --system-map /r/System.map --symvers /r/Module.symvers --params p",
         0,
-        "insmod /r/lib/modules/6.1.0/kernel/p.ko\nloaded p ffffffffc0000000 8192 6151820ecdeb6bb07844315ce71ced3fb4f4185f89f80f3e10b2155caf47a89c\nparams p 0 6151820ecdeb6bb07844315ce71ced3fb4f4185f89f80f3e10b2155caf47a89c\n",
+        "insmod /r/lib/modules/6.1.0/kernel/p.ko\n\
+         loaded p ffffffffc0000000 8192 \
+         6151820ecdeb6bb07844315ce71ced3fb4f4185f89f80f3e10b2155caf47a89c\n\
+         params p 0 6151820ecdeb6bb07844315ce71ced3fb4f4185f89f80f3e10b2155caf47a89c\n",
         "",
     ),
     (
-        "modprobe -d /r -S 6.1.0 --system-map /r/System.map --symvers /r/Module.symvers -C /r/ended.conf --params p depth=5 raw",
+        "modprobe -d /r -S 6.1.0 --system-map /r/System.map --symvers /r/Module.symvers \
+         -C /r/ended.conf --params p depth=5 raw",
         0,
-        "insmod /r/lib/modules/6.1.0/kernel/p.ko depth=4 -- depth=5 raw\nloaded p ffffffffc0000000 8192 6151820ecdeb6bb07844315ce71ced3fb4f4185f89f80f3e10b2155caf47a89c\nparams p 1 7a6b634f16f345fc80ac436e6000f649ab43ed4b66b7121fc694e7a03ae64b16\n",
+        "insmod /r/lib/modules/6.1.0/kernel/p.ko depth=4 -- depth=5 raw\n\
+         loaded p ffffffffc0000000 8192 \
+         6151820ecdeb6bb07844315ce71ced3fb4f4185f89f80f3e10b2155caf47a89c\n\
+         params p 1 7a6b634f16f345fc80ac436e6000f649ab43ed4b66b7121fc694e7a03ae64b16\n",
         "",
     ),
 ];
@@ -52,21 +72,39 @@ static LOADS: [RowOf<'static>; 6] = [
 /// Loads of two such modules: a refusal ends the command, and what was loaded before it stays.
 static LOADS_OF_TWO: [RowOf<'static>; 3] = [
     (
-        "modprobe -d /r -S 6.1.0 --system-map /r/System.map --symvers /r/Module.symvers -C /r/bad.conf --params -a p q",
+        "modprobe -d /r -S 6.1.0 --system-map /r/System.map --symvers /r/Module.symvers \
+         -C /r/bad.conf --params -a p q",
         1,
-        "insmod /r/lib/modules/6.1.0/kernel/p.ko depth=08\ninsmod /r/lib/modules/6.1.0/kernel/q.ko\nloaded p ffffffffc0000000 8192 6151820ecdeb6bb07844315ce71ced3fb4f4185f89f80f3e10b2155caf47a89c\n",
+        "insmod /r/lib/modules/6.1.0/kernel/p.ko depth=08\n\
+         insmod /r/lib/modules/6.1.0/kernel/q.ko\n\
+         loaded p ffffffffc0000000 8192 \
+         6151820ecdeb6bb07844315ce71ced3fb4f4185f89f80f3e10b2155caf47a89c\n",
         "kmod: p: bad value of depth\n",
     ),
     (
-        "modprobe -d /r -S 6.1.0 --system-map /r/System.map --symvers /r/Module.symvers -C /r/bad.conf -a p q",
+        "modprobe -d /r -S 6.1.0 --system-map /r/System.map --symvers /r/Module.symvers \
+         -C /r/bad.conf -a p q",
         0,
-        "insmod /r/lib/modules/6.1.0/kernel/p.ko depth=08\ninsmod /r/lib/modules/6.1.0/kernel/q.ko\nloaded p ffffffffc0000000 8192 6151820ecdeb6bb07844315ce71ced3fb4f4185f89f80f3e10b2155caf47a89c\nloaded q ffffffffc0002000 8192 b827d3093b4e5d85444b05f519b759cfd30f0f2ba288144e9c0cdc43b116f9a6\n",
+        "insmod /r/lib/modules/6.1.0/kernel/p.ko depth=08\n\
+         insmod /r/lib/modules/6.1.0/kernel/q.ko\n\
+         loaded p ffffffffc0000000 8192 \
+         6151820ecdeb6bb07844315ce71ced3fb4f4185f89f80f3e10b2155caf47a89c\n\
+         loaded q ffffffffc0002000 8192 \
+         b827d3093b4e5d85444b05f519b759cfd30f0f2ba288144e9c0cdc43b116f9a6\n",
         "",
     ),
     (
-        "modprobe -d /r -S 6.1.0 --system-map /r/System.map --symvers /r/Module.symvers -C /r/good.conf --params -a q p",
+        "modprobe -d /r -S 6.1.0 --system-map /r/System.map --symvers /r/Module.symvers \
+         -C /r/good.conf --params -a q p",
         0,
-        "insmod /r/lib/modules/6.1.0/kernel/q.ko\ninsmod /r/lib/modules/6.1.0/kernel/p.ko depth=5\nloaded q ffffffffc0000000 8192 6151820ecdeb6bb07844315ce71ced3fb4f4185f89f80f3e10b2155caf47a89c\nparams q 0 6151820ecdeb6bb07844315ce71ced3fb4f4185f89f80f3e10b2155caf47a89c\nloaded p ffffffffc0002000 8192 b827d3093b4e5d85444b05f519b759cfd30f0f2ba288144e9c0cdc43b116f9a6\nparams p 1 e52c66edd720326b7060e8cf700f720fe14d6f876950e17db5087f3332b7196b\n",
+        "insmod /r/lib/modules/6.1.0/kernel/q.ko\n\
+         insmod /r/lib/modules/6.1.0/kernel/p.ko depth=5\n\
+         loaded q ffffffffc0000000 8192 \
+         6151820ecdeb6bb07844315ce71ced3fb4f4185f89f80f3e10b2155caf47a89c\n\
+         params q 0 6151820ecdeb6bb07844315ce71ced3fb4f4185f89f80f3e10b2155caf47a89c\n\
+         loaded p ffffffffc0002000 8192 \
+         b827d3093b4e5d85444b05f519b759cfd30f0f2ba288144e9c0cdc43b116f9a6\n\
+         params p 1 e52c66edd720326b7060e8cf700f720fe14d6f876950e17db5087f3332b7196b\n",
         "",
     ),
 ];
@@ -74,19 +112,22 @@ static LOADS_OF_TWO: [RowOf<'static>; 3] = [
 /// Only a load has parameters.
 static NO_LOADS: [RowOf<'static>; 3] = [
     (
-        "modprobe -d /r -S 6.1.0 --system-map /r/System.map --symvers /r/Module.symvers -n --params p",
+        "modprobe -d /r -S 6.1.0 --system-map /r/System.map --symvers /r/Module.symvers -n \
+         --params p",
         2,
         "",
         USAGE,
     ),
     (
-        "modprobe -d /r -S 6.1.0 --system-map /r/System.map --symvers /r/Module.symvers -D --params p",
+        "modprobe -d /r -S 6.1.0 --system-map /r/System.map --symvers /r/Module.symvers -D \
+         --params p",
         2,
         "",
         USAGE,
     ),
     (
-        "modprobe -d /r -S 6.1.0 --system-map /r/System.map --symvers /r/Module.symvers -R --params p",
+        "modprobe -d /r -S 6.1.0 --system-map /r/System.map --symvers /r/Module.symvers -R \
+         --params p",
         2,
         "",
         USAGE,
@@ -95,17 +136,24 @@ static NO_LOADS: [RowOf<'static>; 3] = [
 
 /// A load whose images are put.
 static PUT: [RowOf<'static>; 1] = [(
-    "modprobe -d /r -S 6.1.0 --system-map /r/System.map --symvers /r/Module.symvers --params --image /r/img p depth=3 raw",
+    "modprobe -d /r -S 6.1.0 --system-map /r/System.map --symvers /r/Module.symvers --params \
+     --image /r/img p depth=3 raw",
     0,
-    "insmod /r/lib/modules/6.1.0/kernel/p.ko depth=3 raw\nloaded p ffffffffc0000000 8192 6151820ecdeb6bb07844315ce71ced3fb4f4185f89f80f3e10b2155caf47a89c\nparams p 2 6185a0327b828bf8b24b4f547689e557ccece9e8bd678b6b9fd183a352e6e744\n",
+    "insmod /r/lib/modules/6.1.0/kernel/p.ko depth=3 raw\n\
+     loaded p ffffffffc0000000 8192 \
+     6151820ecdeb6bb07844315ce71ced3fb4f4185f89f80f3e10b2155caf47a89c\n\
+     params p 2 6185a0327b828bf8b24b4f547689e557ccece9e8bd678b6b9fd183a352e6e744\n",
     "",
 )];
 
 /// The same where the second image can't be put.
 static PUT_ONCE: [RowOf<'static>; 1] = [(
-    "modprobe -d /r -S 6.1.0 --system-map /r/System.map --symvers /r/Module.symvers --params --image /r/img p depth=3 raw",
+    "modprobe -d /r -S 6.1.0 --system-map /r/System.map --symvers /r/Module.symvers --params \
+     --image /r/img p depth=3 raw",
     3,
-    "insmod /r/lib/modules/6.1.0/kernel/p.ko depth=3 raw\nloaded p ffffffffc0000000 8192 6151820ecdeb6bb07844315ce71ced3fb4f4185f89f80f3e10b2155caf47a89c\n",
+    "insmod /r/lib/modules/6.1.0/kernel/p.ko depth=3 raw\n\
+     loaded p ffffffffc0000000 8192 \
+     6151820ecdeb6bb07844315ce71ced3fb4f4185f89f80f3e10b2155caf47a89c\n",
     "kmod: file fault /r/img/p.params.img\n",
 )];
 

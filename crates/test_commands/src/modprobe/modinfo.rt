@@ -52,7 +52,11 @@ static BY_PATH: [Row; 25] = [
     (
         "modinfo /m/p.ko",
         0,
-        "filename:       /m/p.ko\nlicense:        GPL\nalias:          fs-x\nparm:           depth:how deep (int)\nparm:           raw:bool\n",
+        "filename:       /m/p.ko\n\
+         license:        GPL\n\
+         alias:          fs-x\n\
+         parm:           depth:how deep (int)\n\
+         parm:           raw:bool\n",
         "",
     ),
     (

@@ -30,7 +30,8 @@ static TREES: [IndexedRow<'static>; 11] = [
         rows: &[(
             "modprobe -d /r -S 6.1.0 -n b raw=1 wide=2",
             0,
-            "insmod /r/lib/modules/6.1.0/kernel/a.ko\ninsmod /r/lib/modules/6.1.0/kernel/b.ko depth=3 raw=1 wide=2\n",
+            "insmod /r/lib/modules/6.1.0/kernel/a.ko\n\
+             insmod /r/lib/modules/6.1.0/kernel/b.ko depth=3 raw=1 wide=2\n",
             "",
         )],
         ..INDEXED
@@ -75,7 +76,8 @@ static TREES: [IndexedRow<'static>; 11] = [
             (
                 "modprobe -d /r -S 6.1.0 --loaded /r/loaded -D b",
                 0,
-                "insmod /r/lib/modules/6.1.0/kernel/a.ko\ninsmod /r/lib/modules/6.1.0/kernel/b.ko\n",
+                "insmod /r/lib/modules/6.1.0/kernel/a.ko\n\
+                 insmod /r/lib/modules/6.1.0/kernel/b.ko\n",
                 "",
             ),
             ("modprobe -d /r -S 6.1.0 --loaded /r/loaded -n a", 0, "", ""),
@@ -135,7 +137,8 @@ static TREES: [IndexedRow<'static>; 11] = [
             (
                 "modprobe -d /r -S 6.1.0 -n c",
                 0,
-                "insmod /r/lib/modules/6.1.0/kernel/a.ko\ninsmod /r/lib/modules/6.1.0/kernel/c.ko\n",
+                "insmod /r/lib/modules/6.1.0/kernel/a.ko\n\
+                 insmod /r/lib/modules/6.1.0/kernel/c.ko\n",
                 "",
             ),
             (
@@ -190,7 +193,10 @@ static TREES: [IndexedRow<'static>; 11] = [
         rows: &[(
             "modprobe -d /r -S 6.1.0 -n m",
             0,
-            "insmod /r/lib/modules/6.1.0/kernel/avail.ko\ninsmod /r/lib/modules/6.1.0/kernel/late.ko\ninsmod /r/lib/modules/6.1.0/kernel/m.ko\ninsmod /r/lib/modules/6.1.0/kernel/zed.ko\n",
+            "insmod /r/lib/modules/6.1.0/kernel/avail.ko\n\
+             insmod /r/lib/modules/6.1.0/kernel/late.ko\n\
+             insmod /r/lib/modules/6.1.0/kernel/m.ko\n\
+             insmod /r/lib/modules/6.1.0/kernel/zed.ko\n",
             "",
         )],
         ..INDEXED
@@ -255,7 +261,8 @@ static TREES: [IndexedRow<'static>; 11] = [
             (
                 "modprobe -d /r -S 6.1.0 -n c",
                 0,
-                "insmod /r/lib/modules/6.1.0/kernel/a.ko\ninsmod /r/lib/modules/6.1.0/kernel/c.ko\n",
+                "insmod /r/lib/modules/6.1.0/kernel/a.ko\n\
+                 insmod /r/lib/modules/6.1.0/kernel/c.ko\n",
                 "",
             ),
         ],
@@ -279,7 +286,8 @@ static TREES: [IndexedRow<'static>; 11] = [
             (
                 "modprobe -d /r -S 6.1.0 -n c",
                 0,
-                "insmod /r/lib/modules/6.1.0/kernel/a.ko\ninsmod /r/lib/modules/6.1.0/kernel/c.ko\n",
+                "insmod /r/lib/modules/6.1.0/kernel/a.ko\n\
+                 insmod /r/lib/modules/6.1.0/kernel/c.ko\n",
                 "",
             ),
         ],

@@ -10,19 +10,31 @@ static TRIALS: [Row; 3] = [
     (
         "trial 1 1",
         0,
-        "modules 1\ndependencies 0\nplanned 1\nloaded 1\nimages c6c95917cef2d89bf138a45b46ef4155f44b4dba3fdef5bd3e0dd145c1741227\n",
+        "modules 1\n\
+         dependencies 0\n\
+         planned 1\n\
+         loaded 1\n\
+         images c6c95917cef2d89bf138a45b46ef4155f44b4dba3fdef5bd3e0dd145c1741227\n",
         "",
     ),
     (
         "trial 1 2",
         0,
-        "modules 2\ndependencies 1\nplanned 2\nloaded 2\nimages 6e01d8a1a0adb080eac0b219e0d389f1fd57a7baed14adfbaa0d581bd54b07a0\n",
+        "modules 2\n\
+         dependencies 1\n\
+         planned 2\n\
+         loaded 2\n\
+         images 6e01d8a1a0adb080eac0b219e0d389f1fd57a7baed14adfbaa0d581bd54b07a0\n",
         "",
     ),
     (
         "trial 1 3",
         0,
-        "modules 3\ndependencies 2\nplanned 3\nloaded 3\nimages fe1d27353d8fe48d7d22f38f5a781d684f526252c8b571272bde9301d03a620a\n",
+        "modules 3\n\
+         dependencies 2\n\
+         planned 3\n\
+         loaded 3\n\
+         images fe1d27353d8fe48d7d22f38f5a781d684f526252c8b571272bde9301d03a620a\n",
         "",
     ),
 ];
@@ -39,7 +51,11 @@ static NOT_UNDERSTOOD: [Row; 4] = [
 const OF_MANY: Row = (
     "trial 7 2000",
     0,
-    "modules 2000\ndependencies 135792\nplanned 2000\nloaded 2000\nimages 522c29431e76887306aa87c75dfa4d8e4fbdce7e5c514bea39cc3705b92aedb8\n",
+    "modules 2000\n\
+     dependencies 135792\n\
+     planned 2000\n\
+     loaded 2000\n\
+     images 522c29431e76887306aa87c75dfa4d8e4fbdce7e5c514bea39cc3705b92aedb8\n",
     "",
 );
 
