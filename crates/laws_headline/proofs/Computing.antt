@@ -9,13 +9,13 @@ use Rattle.km_names.specs.Statements as km_names_statements
 use Rattle.km_names.specs.Strings as km_names_strings
 use Rattle.km_course.specs.Course.{◌>>=◌}
 use Rattle.km_course.specs.Course as km_course_course
-use Rattle.module_symbols.specs.Contents as module_facts_contents
-use Rattle.module_symbols.specs.Exports as module_facts_exports
+use Rattle.module_symbols.specs.Contents as module_symbols_contents
+use Rattle.module_symbols.specs.Exports as module_symbols_exports
 use Rattle.module_facts.specs.Facts as module_facts_facts
 use Rattle.module_facts.specs.Faults as module_facts_faults
-use Rattle.module_symbols.specs.Needs as module_facts_needs
-use Rattle.module_symbols.specs.Roles as module_facts_roles
-use Rattle.module_symbols.specs.Versions as module_facts_versions
+use Rattle.module_symbols.specs.Needs as module_symbols_needs
+use Rattle.module_symbols.specs.Roles as module_symbols_roles
+use Rattle.module_symbols.specs.Versions as module_symbols_versions
 use Rattle.elf_object.specs.Object as elf_object_object
 use Rattle.elf_object.specs.Places as elf_object_places
 use Rattle.elf_sections.specs.Sections as elf_sections_sections
@@ -80,22 +80,24 @@ unfolding lib.Count.ones km_names_aliasform.normal_alias km_names_ascii.is_graph
     km_names_space.words km_names_statements.bad_line km_names_statements.stated
     km_names_statements.parsed km_names_strings.first_string ◌>>=◌ km_course_course.continued
     km_course_course.possible_after km_course_course.given km_course_course.act_with
-    module_facts_contents.section_contents module_facts_contents.named_section
-    module_facts_contents.named_bytes module_facts_contents.modinfo_bytes
-    module_facts_exports.given_version module_facts_exports.is_gpl_entry
-    module_facts_exports.given_space module_facts_exports.export_of module_facts_exports.exports_of
+    module_symbols_contents.section_contents module_symbols_contents.named_section
+    module_symbols_contents.named_bytes module_symbols_contents.modinfo_bytes
+    module_symbols_exports.given_version module_symbols_exports.is_gpl_entry
+    module_symbols_exports.given_space module_symbols_exports.export_of
+    module_symbols_exports.exports_of
     module_facts_facts.texts_of module_facts_facts.is_free_license module_facts_facts.is_free
     module_facts_facts.object_facts module_facts_faults.has_good_names module_facts_faults.is_twice
     module_facts_faults.is_undefined module_facts_faults.has_bad_version
     module_facts_faults.has_bad_versions module_facts_faults.has_bad_space
     module_facts_faults.facts_tests module_facts_faults.module_tests module_facts_faults.fact_fault
-    module_facts_needs.is_need module_facts_needs.need_of module_facts_needs.needs_of
-    module_facts_roles.stated_name module_facts_roles.symbol_of module_facts_versions.extended_bytes
-    module_facts_versions.ended_names module_facts_versions.extended_list
-    module_facts_versions.is_bad_extended module_facts_versions.entry_name
-    module_facts_versions.entry_list module_facts_versions.are_bad_entries
-    module_facts_versions.version_list module_facts_versions.is_bad_list
-    module_facts_versions.stated_version elf_object_object.object_tests
+    module_symbols_needs.is_need module_symbols_needs.need_of module_symbols_needs.needs_of
+    module_symbols_roles.stated_name module_symbols_roles.symbol_of
+    module_symbols_versions.extended_bytes
+    module_symbols_versions.ended_names module_symbols_versions.extended_list
+    module_symbols_versions.is_bad_extended module_symbols_versions.entry_name
+    module_symbols_versions.entry_list module_symbols_versions.are_bad_entries
+    module_symbols_versions.version_list module_symbols_versions.is_bad_list
+    module_symbols_versions.stated_version elf_object_object.object_tests
     elf_object_object.object_fault elf_object_places.is_alignment elf_object_places.align_test
     elf_object_places.place_in elf_object_places.is_unkept elf_object_places.is_bad_place
     elf_object_places.place_test elf_object_places.is_applied elf_object_places.section_places
