@@ -6,6 +6,7 @@ use Rattle.std.specs.Prelude.{Err, ◌⊎◌, ⊤}
 use Rattle.km_names.specs.First.{first}
 use Rattle.km_names.specs.Limit.{file_limit}
 use Rattle.km_names.specs.Statements.{unless_fault}
+use Rattle.elf_sections.specs.Shape.{fault_if}
 use Rattle.module_facts.specs.declared.facts.Facts.{Facts}
 use Rattle.symbol_binding.specs.Symbols.{Kernel}
 use Rattle.provider_rel.specs.Faces.{modules_of}
@@ -30,7 +31,7 @@ use Rattle.command_depmod.specs.declared.files.DepmodFile.TheVariants.{Usual}
 use Rattle.command_depmod.specs.declared.files.DepmodFiles.{DepmodFiles}
 use Rattle.command_depmod.specs.declared.files.ExtraFiles.{ExtraFiles}
 use Rattle.command_depmod.specs.Extra.{extra_outcome, reads_info, size_refusal}
-use Rattle.command_depmod.specs.Refused.{refused_if, unless_refused}
+use Rattle.command_depmod.specs.Refused.{unless_refused}
 use Rattle.command_depmod.specs.Relation.{KernelTree}
 use Rattle.command_depmod.specs.Outputs.{outputs_outcome, puts_file, puts_each, says_file}
 use Rattle.command_depmod.specs.Outputs.{says_each, usual_refusal}
@@ -89,7 +90,7 @@ each-alike made (file ∷ others) =
         → first (map (λ one. size_refusal (Usual one) (usual_content made one)) others)
         ≡ option_map refusal_for
         (first (map (λ one. size_fault one (usual_content made one)) others))
-        → first (refused_if large (OutputTooLarge (usual_name file))
+        → first (fault_if large (OutputTooLarge (usual_name file))
         ∷ map (λ one. size_refusal (Usual one) (usual_content made one)) others)
         ≡ option_map refusal_for
         (first ((if large then Some (too_large file (usual_content made file)) else None)

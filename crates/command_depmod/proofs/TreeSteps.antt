@@ -6,6 +6,7 @@ use Rattle.std.specs.Prelude.{Ok, Err, codes, ◌⊎◌}
 use Rattle.km_names.specs.First.{first}
 use Rattle.km_names.specs.Lines.{lines_of}
 use Rattle.km_names.specs.Path.{path_below}
+use Rattle.elf_sections.specs.Shape.{fault_if}
 use Rattle.mod_tree.specs.Tree.{bad_path, is_module_path, name_count, tree_of, tree_paths}
 use Rattle.mod_tree.specs.Tree.{tree_unless}
 use Rattle.mod_tree.specs.declared.tree.TreeFault.{TreeFault}
@@ -16,7 +17,7 @@ use Rattle.km_course.specs.Follows.{Answers}
 use Rattle.km_course.specs.declared.end.End.TheVariants.{Refused}
 use Rattle.km_course.specs.declared.refusal.Refusal.TheVariants as refusals
 use Rattle.km_course.specs.declared.stop.Stop.{Stop}
-use Rattle.command_depmod.specs.Refused.{refused_if, unless_refused}
+use Rattle.command_depmod.specs.Refused.{unless_refused}
 use Rattle.command_depmod.specs.Tree.{tree_outcome, tree_stop}
 
 -- the stage after modules.order was read
@@ -38,13 +39,13 @@ tree_end (Err Memory) = end (Refused refusals.TooManyModules)
 refused-alike : (bad : Option (List ℕ)) (count : ℕ) (paths : List (List ℕ))
     → unless_refused (first
     (option_map refusals.BadPath bad
-    ∷ refused_if (nat_lt 10000 count) refusals.TooManyModules ∷ [])) paths
+    ∷ fault_if (nat_lt 10000 count) refusals.TooManyModules ∷ [])) paths
     ≡ tree_end (tree_unless bad count paths)
 refused-alike (Some path) count paths = refl
 refused-alike None count paths = go (nat_lt 10000 count)
   where
     go : (many : Bool)
-        → unless_refused (first (refused_if many refusals.TooManyModules ∷ [])) paths
+        → unless_refused (first (fault_if many refusals.TooManyModules ∷ [])) paths
         ≡ tree_end (if many then Err (TooManyModules count) else Ok paths)
     go true = refl
     go false = refl

@@ -5,6 +5,7 @@ use Rattle.std.specs.Prelude.{option_map}
 use Rattle.km_names.specs.First.{first}
 use Rattle.km_names.specs.Limit.{file_limit}
 use Rattle.km_names.specs.Path.{path_below}
+use Rattle.elf_sections.specs.Shape.{fault_if}
 use Rattle.index_format.specs.File.{file}
 use Rattle.module_facts.specs.declared.facts.Facts.{Facts}
 use Rattle.builtin_index.specs.Aliases.{alias_map}
@@ -20,7 +21,7 @@ use Rattle.command_depmod.specs.declared.files.DepmodFile.{DepmodFile}
 use Rattle.command_depmod.specs.declared.files.DepmodFile.TheVariants.{BuiltinAliasBin, Devname}
 use Rattle.command_depmod.specs.declared.files.ExtraFiles.{ExtraFiles}
 use Rattle.command_depmod.specs.Files.{file_name}
-use Rattle.command_depmod.specs.Refused.{refused_if, unless_refused}
+use Rattle.command_depmod.specs.Refused.{unless_refused}
 
 -- The modules.builtin.modinfo in a folder, if it is asked for. It counts as empty if it is missing.
 abbrev pub reads_info : Bool → List ℕ → Stage (Option (List ℕ))
@@ -37,7 +38,7 @@ extra_files tree info =
 -- The refusal of a file of this many bytes, by its bare name: it is too large.
 abbrev pub size_refusal : DepmodFile → List ℕ → Option Refusal
 size_refusal which bytes =
-    refused_if (nat_lt file_limit (length bytes)) (OutputTooLarge (file_name which))
+    fault_if (nat_lt file_limit (length bytes)) (OutputTooLarge (file_name which))
 
 -- The two files, if modules.builtin.modinfo was read.
 abbrev pub extra_made : List Facts → Option (List ℕ) → Option ExtraFiles

@@ -1,13 +1,9 @@
 -- What a check results in: what it checks, or a refusal.
-use Rattle.std.specs.Prelude.{Bool, Option, Some, None, if◌then◌else◌}
+use Rattle.std.specs.Prelude.{Option, Some, None}
 use Rattle.km_course.specs.Course.{Outcome}
 use Rattle.km_course.specs.Course.Outcome.{value, end}
 use Rattle.km_course.specs.declared.end.End.TheVariants.{Refused}
 use Rattle.km_course.specs.declared.refusal.Refusal.{Refusal}
-
--- The refusal, if the test holds.
-abbrev pub refused_if : Bool → Refusal → Option Refusal
-refused_if test refusal = if test then Some refusal else None
 
 -- The value, unless it is refused.
 abbrev pub unless_refused : {X : Type 0} → Option Refusal → X → Outcome X

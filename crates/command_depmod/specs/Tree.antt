@@ -6,6 +6,7 @@ use Rattle.km_names.specs.Ascii.{is_graphic}
 use Rattle.km_names.specs.Path.{path_below, module_name}
 use Rattle.km_names.specs.First.{first}
 use Rattle.km_names.specs.Lines.{lines_of}
+use Rattle.elf_sections.specs.Shape.{fault_if}
 use Rattle.mod_tree.specs.Tree.{bad_path, is_module_path, name_count, tree_paths}
 use Rattle.mod_tree.specs.declared.tree.TreeFault.{TreeFault}
 use Rattle.mod_tree.specs.declared.tree.TreeFault.TheVariants as faults
@@ -15,13 +16,13 @@ use Rattle.km_course.specs.declared.refusal.Refusal.{Refusal}
 use Rattle.km_course.specs.declared.refusal.Refusal.TheVariants.{BadPath, TooManyModules}
 use Rattle.km_course.specs.declared.stop.Stop.{Stop}
 use Rattle.km_course.specs.declared.stop.Stop.TheVariants.{Ended, Memory}
-use Rattle.command_depmod.specs.Refused.{refused_if, unless_refused}
+use Rattle.command_depmod.specs.Refused.{unless_refused}
 
 -- The refusal of paths of modules: of the least that is bad, or of more than 10,000 names.
 abbrev pub tree_refusal : List (List ℕ) → Option Refusal
 tree_refusal paths =
     first (option_map BadPath (bad_path paths)
-    ∷ refused_if (nat_lt 10000 (name_count paths)) TooManyModules ∷ [])
+    ∷ fault_if (nat_lt 10000 (name_count paths)) TooManyModules ∷ [])
 
 -- how a fault of a tree stops the command
 abbrev pub tree_stop : TreeFault → Stop

@@ -7,6 +7,7 @@ use Rattle.std.specs.Option.{option_or, option_map_or}
 use Rattle.std.proofs.lemmas.List.{map-append}
 use Rattle.elf_format.specs.declared.section.TheConstants.{PAGE}
 use Rattle.km_names.specs.First.{first}
+use Rattle.elf_sections.specs.Shape.{fault_if}
 use Rattle.module_symbols.specs.declared.exports.Export.{Export as FactsExport}
 use Rattle.module_facts.specs.declared.module.Module.{Module}
 use Rattle.symbol_binding.specs.Symbols.{Export, Need, Face}
@@ -18,7 +19,7 @@ use Rattle.model_loader.specs.declared.fault.LoadFault.TheVariants.{RegionFull, 
 use Rattle.model_loader.specs.Machine.{Machine, entry_face, export_face, facts_face, need_face}
 use Rattle.model_loader.specs.Gap.{gap}
 use Rattle.model_loader.specs.Sound.{IsSound}
-use Rattle.model_loader.specs.Step.{bound_need, entry_at, fault_if, module_base, module_size}
+use Rattle.model_loader.specs.Step.{bound_need, entry_at, module_base, module_size}
 use Rattle.model_loader.specs.Step.{name_tests, named_pages, overflow_fault, placement_tests}
 use Rattle.model_loader.specs.Step.{placed_export, refusal, step, symbol_addresses, with_entry}
 use Rattle.model_loader.proofs.StepLemmas.{first-append, refusal-split, step-passed}

@@ -3,6 +3,7 @@ use Rattle.std.proofs.Common.{◌≡◌, ℕ, Bool, true, false, List, [], ◌�
 use Rattle.std.proofs.Common.{Some, None, option_map, refl, sym, ap, append_assoc, append-nil}
 use Rattle.std.proofs.lemmas.Option.{none-some}
 use Rattle.km_names.specs.First.{first}
+use Rattle.elf_sections.specs.Shape.{fault_if}
 use Rattle.laws_closed_plans.specs.Members.{Member}
 use Rattle.symbol_binding.specs.Symbols.{Export, Need, Face, Kernel}
 use Rattle.symbol_binding.specs.Provider.{Provided, export_under}
@@ -11,7 +12,6 @@ use Rattle.model_loader.specs.declared.fault.LoadFault.{LoadFault}
 use Rattle.model_loader.specs.declared.fault.LoadFault.TheVariants.{AlreadyLoaded, MissingSymbol}
 use Rattle.model_loader.specs.declared.fault.LoadFault.TheVariants.{GplOnly, VersionDiffers}
 use Rattle.model_loader.specs.declared.fault.LoadFault.TheVariants.{NotImported, ExportTaken}
-use Rattle.model_loader.specs.Step.{fault_if}
 use Rattle.laws_closed_plans.specs.Names.{need_fault, export_fault, name_fault, first_name_fault}
 use Rattle.laws_closed_plans.specs.Names.{is_named, owner_name, seen_table}
 use Rattle.model_loader.proofs.SoundLemmas.{Passes}

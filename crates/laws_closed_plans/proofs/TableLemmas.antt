@@ -6,6 +6,7 @@ use Rattle.std.specs.Str.{bytes_eq}
 use Rattle.std.proofs.lemmas.Bool.{cases_Bool}
 use Rattle.std.proofs.lemmas.Option.{none-some}
 use Rattle.km_names.specs.First.{first}
+use Rattle.elf_sections.specs.Shape.{fault_if}
 use Rattle.module_facts.specs.declared.facts.Facts.{Facts}
 use Rattle.module_symbols.specs.declared.needs.Need.{Need as FactsNeed}
 use Rattle.module_symbols.specs.declared.exports.Export.{Export as FactsExport}
@@ -26,7 +27,7 @@ use Rattle.model_loader.specs.declared.fault.LoadFault.TheVariants.{NotImported,
 use Rattle.model_loader.specs.Machine.{Machine, bound_export, entry_face, export_face, export_named}
 use Rattle.model_loader.specs.Machine.{facts_face, facts_need, kernel_placed, standing}
 use Rattle.model_loader.specs.Machine.{standing_export, table}
-use Rattle.model_loader.specs.Step.{fault_if, name_tests, need_test, taken_test}
+use Rattle.model_loader.specs.Step.{name_tests, need_test, taken_test}
 use Rattle.model_loader.proofs.GapLemmas.{any-map}
 use Rattle.model_loader.proofs.StandingLemmas.{find-map, find-same, same_name}
 use Rattle.laws_closed_plans.specs.Names.{export_fault, name_fault, need_fault, owner_name}

@@ -3,6 +3,7 @@ use Rattle.std.proofs.Common.{◌≡◌, ◌≤◌, ◌<◌, ◌+◌, ◌*◌, �
 use Rattle.std.proofs.Common.{Bool, true, false, List, [], ◌∷◌, ◌++◌, Option, Some, None, refl, sym}
 use Rattle.std.proofs.Common.{ap, subst, arith, length, map, get_or}
 use Rattle.std.specs.Prelude.{find, option_map, All, unwrap_or, is_none, option_and_then}
+use Rattle.elf_sections.specs.Shape.{fault_if}
 use Rattle.model_loader.specs.declared.fault.LoadFault.TheVariants.{RegionFull}
 use Rattle.std.specs.List.{IsDistinct, list_any}
 use Rattle.std.specs.Option.{option_or}
@@ -29,7 +30,7 @@ use Rattle.model_loader.specs.Gap.{gap, gap_among, is_gap, meets_entry, pages}
 use Rattle.model_loader.specs.Kept.{IsKept}
 use Rattle.model_loader.specs.Sound.{IsPlaced, entry_names, exported_names}
 use Rattle.model_loader.specs.Standing.{export_pair, named_pair, standing_in, standing_of}
-use Rattle.model_loader.specs.Step.{fault_if, named_pages, overflow_fault, entry_at, module_base}
+use Rattle.model_loader.specs.Step.{named_pages, overflow_fault, entry_at, module_base}
 use Rattle.model_loader.specs.Step.{module_size, placement_tests, symbol_addresses, with_entry}
 use Rattle.model_loader.proofs.StandingLemmas.{find-map}
 use Rattle.model_loader.proofs.StepLemmas.{first-append}

@@ -5,6 +5,7 @@ use Rattle.std.specs.Prelude.{option_map, unwrap_or}
 use Rattle.std.specs.List.{list_any}
 use Rattle.std.specs.Str.{bytes_eq}
 use Rattle.km_names.specs.First.{first}
+use Rattle.elf_sections.specs.Shape.{fault_if}
 use Rattle.module_facts.specs.declared.facts.Facts.{Facts}
 use Rattle.module_symbols.specs.declared.exports.Export.{Export}
 use Rattle.symbol_binding.specs.Unmet.{vmlinux}
@@ -17,7 +18,7 @@ use Rattle.model_loader.specs.declared.fault.LoadFault.TheVariants.{Memory}
 use Rattle.model_loader.specs.Machine.{Machine, is_loaded}
 use Rattle.model_loader.specs.NeedTests.{taken_by}
 use Rattle.model_loader.specs.Standing.{Keeps}
-use Rattle.model_loader.specs.Step.{fault_if, taken_test}
+use Rattle.model_loader.specs.Step.{taken_test}
 use Rattle.model_loader.proofs.EntryLemmas.{map-same}
 
 pub named-is : (machine : Machine) (entries : List Entry) (name : List ℕ)

@@ -15,6 +15,7 @@ use Rattle.std.proofs.lemmas.List.Elements.{All-map}
 use Rattle.std.proofs.lemmas.List.Folds.{list_any-append}
 use Rattle.std.proofs.lemmas.Map.Keys.{IsDistinct-push, IsDistinct-head, IsDistinct-tail}
 use Rattle.km_names.specs.First.{first}
+use Rattle.elf_sections.specs.Shape.{fault_if}
 use Rattle.module_symbols.specs.declared.needs.Need.{Need as FactsNeed}
 use Rattle.module_symbols.specs.declared.exports.Export.{Export as FactsExport}
 use Rattle.module_facts.specs.declared.module.Module.{Module}
@@ -38,7 +39,7 @@ use Rattle.model_loader.specs.Machine.{standing, table}
 use Rattle.model_loader.specs.Gap.{meets_entry}
 use Rattle.model_loader.specs.Sound.{Agrees, AreApart, AreBoundAfter, IsBound, IsEntryOf, IsSound}
 use Rattle.model_loader.specs.Sound.{entry_names, exported_names}
-use Rattle.model_loader.specs.Step.{bound_need, entry_at, fault_if, module_base, module_size}
+use Rattle.model_loader.specs.Step.{bound_need, entry_at, module_base, module_size}
 use Rattle.model_loader.specs.Step.{name_tests, need_test, placed_export, refusal, symbol_addresses}
 use Rattle.model_loader.specs.Step.{taken_test, with_entry}
 use Rattle.model_loader.proofs.StandingLemmas.{same_name}

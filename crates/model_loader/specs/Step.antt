@@ -7,6 +7,7 @@ use Rattle.std.specs.List.{range_with_len}
 use Rattle.std.specs.Option.{option_map_or}
 use Rattle.elf_format.specs.declared.section.TheConstants.{PAGE}
 use Rattle.km_names.specs.First.{first}
+use Rattle.elf_sections.specs.Shape.{fault_if}
 use Rattle.module_symbols.specs.declared.exports.Export.{Export as FactsExport}
 use Rattle.module_symbols.specs.declared.needs.Need.{Need as FactsNeed}
 use Rattle.module_facts.specs.declared.facts.Facts.{Facts}
@@ -29,10 +30,6 @@ use Rattle.model_loader.specs.declared.entry.Entry.{Entry}
 use Rattle.model_loader.specs.Machine.{Machine, bound_export, facts_face, facts_need, is_loaded}
 use Rattle.model_loader.specs.Machine.{table}
 use Rattle.model_loader.specs.Gap.{gap}
-
--- A test that fails with this fault if the condition holds.
-abbrev pub fault_if : Bool → LoadFault → Option LoadFault
-fault_if failed fault = if failed then Some fault else None
 
 -- The address of a need: the address of its export, if there is one that the module sees, and
 -- otherwise 0.
