@@ -1,8 +1,8 @@
 // The words that name parameters.
 
-ghost use Rattle.std.specs.Prelude.{◌≡◌, [], ◌∷◌, filter, IfOk, option_copied, option_map};
+ghost use Rattle.std.specs.Prelude.{◌≡◌, [], ◌∷◌, ◌++◌, filter, IfOk, OnOk, option_copied};
+ghost use Rattle.std.specs.Prelude.{option_map};
 ghost use Rattle.std.specs.List.{filter_map};
-ghost use Rattle.std.specs.Option.{option_to_list};
 ghost use Rattle.modinfo_fields.specs.Fields.{is_text};
 ghost use Rattle.param_apply.specs.Words.{setting, settings as settings_spec, word_text};
 
@@ -43,29 +43,31 @@ pub(crate) fn settings<'a>(
         if piece == b"--".as_slice() {
             return Ok(settings);
         }
-        if let Some(setting) = setting_of(alloc, params, piece)? {
-            settings.push(setting)?;
-        }
+        push_setting(alloc, params, piece, &mut settings)?;
         rest = after;
     }
     Ok(settings)
 }
 
-/// Returns what a piece between spaces states, if it is a word that names a parameter.
-fn setting_of<'a>(
+/// Adds what a piece between spaces states, if it is a word that names a parameter.
+fn push_setting<'a>(
     alloc: Global,
     params: &Parameters,
     piece: &'a [u8],
-) -> Result<Option<SettingRef<'a>>, AllocError>
-    ensures { IfOk result
-        (λ s. option_to_list s
-        ≡ filter_map (setting params.now.list.items) (filter is_text (piece.now ∷ []))) }
+    settings: &mut Vec<SettingRef<'a>>,
+) -> Result<(), AllocError>
+    ensures { OnOk result
+        (settings.new.items
+        ≡ settings.old.items
+        ++ filter_map (setting params.now.list.items) (filter is_text (piece.now ∷ []))) }
 {
     if piece.is_empty() {
-        return Ok(None);
+        return Ok(());
     }
-    let setting = word_setting(alloc, params, piece)?;
-    Ok(setting)
+    if let Some(setting) = word_setting(alloc, params, piece)? {
+        settings.push(setting)?;
+    }
+    Ok(())
 }
 
 /// Returns what a word states, if it names a parameter.
