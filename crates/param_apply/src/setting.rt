@@ -1,8 +1,8 @@
 // The words that name parameters.
 
-ghost use Rattle.std.specs.Prelude.{◌≡◌, [], ◌∷◌, ◌++◌, filter, IfOk, OnOk, option_copied};
-ghost use Rattle.std.specs.Prelude.{option_map};
+ghost use Rattle.std.specs.Prelude.{◌≡◌, [], ◌∷◌, filter, IfOk, option_copied, option_map};
 ghost use Rattle.std.specs.List.{filter_map};
+ghost use Rattle.std.specs.Option.{option_to_list};
 ghost use Rattle.modinfo_fields.specs.Fields.{is_text};
 ghost use Rattle.param_apply.specs.Words.{setting, settings as settings_spec, word_text};
 
@@ -43,31 +43,29 @@ pub(crate) fn settings<'a>(
         if piece == b"--".as_slice() {
             return Ok(settings);
         }
-        push_setting(alloc, params, piece, &mut settings)?;
+        if let Some(setting) = setting_of(alloc, params, piece)? {
+            settings.push(setting)?;
+        }
         rest = after;
     }
     Ok(settings)
 }
 
-/// Adds what a piece between spaces states, if it is a word that names a parameter.
-fn push_setting<'a>(
+/// Returns what a piece between spaces states, if it is a word that names a parameter.
+fn setting_of<'a>(
     alloc: Global,
     params: &Parameters,
     piece: &'a [u8],
-    settings: &mut Vec<SettingRef<'a>>,
-) -> Result<(), AllocError>
-    ensures { OnOk result
-        (settings.new.items
-        ≡ settings.old.items
-        ++ filter_map (setting params.now.list.items) (filter is_text (piece.now ∷ []))) }
+) -> Result<Option<SettingRef<'a>>, AllocError>
+    ensures { IfOk result
+        (λ s. option_to_list s
+        ≡ filter_map (setting params.now.list.items) (filter is_text (piece.now ∷ []))) }
 {
     if piece.is_empty() {
-        return Ok(());
+        return Ok(None);
     }
-    if let Some(setting) = word_setting(alloc, params, piece)? {
-        settings.push(setting)?;
-    }
-    Ok(())
+    let setting = word_setting(alloc, params, piece)?;
+    Ok(setting)
 }
 
 /// Returns what a word states, if it names a parameter.

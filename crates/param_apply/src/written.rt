@@ -49,8 +49,15 @@ pub(crate) fn written(
         ⊎ (words_fault object.now params.now (length image.now) settings.now ≡ Some e)) }
 {
     let mut copy = copied(alloc, image)?;
-    let count = write_all(alloc, object, table, &mut copy, params, settings)?;
-    Ok(Params { image: copy, count })
+    let taken = reserved(alloc, object, table, image.len())?;
+    let mut claims = Claims::new(alloc, taken, params.len())?;
+    for setting in settings {
+        write(alloc, &mut copy, &mut claims, params, setting)?;
+    }
+    Ok(Params {
+        image: copy,
+        count: claims.count() as u32,
+    })
 }
 
 /// Copies an image.
@@ -60,40 +67,6 @@ fn copied(alloc: Global, bytes: &[u8]) -> Result<Image, AllocError>
     let mut image = Image::zeroed(alloc, bytes.len())?;
     image.copy_in(0, bytes);
     Ok(image)
-}
-
-/// Writes the values that words state into an image, and returns how many parameters they name.
-///
-/// # Errors
-///
-/// The fault of the first bad word, or `Memory`.
-fn write_all(
-    alloc: Global,
-    object: &Object,
-    table: ParamTable,
-    image: &mut Image,
-    params: &[ParamRef],
-    settings: &[SettingRef],
-) -> Result<u32, ParamFault>
-    requires fits { image_size object.now.sections < 2 ^ 63 }
-    requires table { table ≡ table_of object.now }
-    requires few { length params.now < 2 ^ 32 }
-    requires numbers { All (λ s. s.number < length params.now) settings.now }
-    ensures image { OnOk result
-        (image.new ≡ with_pieces image.old (map (piece params.now) settings.now)) }
-    ensures count { IfOk result (λ count. count ≡ named_count params.now settings.now) }
-    ensures passed { OnOk result
-        (words_fault object.now params.now (length image.old) settings.now ≡ None) }
-    ensures fault { IfErr result
-        (λ e. (e ≡ Memory)
-        ⊎ (words_fault object.now params.now (length image.old) settings.now ≡ Some e)) }
-{
-    let taken = reserved(alloc, object, table, image.as_bytes().len())?;
-    let mut claims = Claims::new(alloc, taken, params.len())?;
-    for setting in settings {
-        write(alloc, image, &mut claims, params, setting)?;
-    }
-    Ok(claims.count() as u32)
 }
 
 /// Writes the value that a word states at the place of its parameter.

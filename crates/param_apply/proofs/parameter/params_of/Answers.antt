@@ -1,5 +1,5 @@
-use Rattle.std.proofs.Common.{◌≡◌, ◌+◌, ◌%◌, ◌++◌, ◌∷◌, [], ◌∙◌, ℕ, Bool, List, Some, None, inl, refl}
-use Rattle.std.proofs.Common.{inr, sym, ap, map, arith, below_more}
+use Rattle.std.proofs.Common.{◌≡◌, ◌+◌, ◌%◌, ◌++◌, ◌∷◌, [], ◌∙◌, ℕ, Bool, List, Some, None, inl}
+use Rattle.std.proofs.Common.{inr, refl, sym, ap, map, arith, below_more}
 use Rattle.std.specs.Prelude.{not}
 use Rattle.std.specs.List.{range_with_len}
 use Rattle.std.proofs.lemmas.Bool.{eq-eqb, ne_eqb}

@@ -1,6 +1,7 @@
-use Rattle.std.proofs.Common.{◌≡◌, ◌++◌, ◌∷◌, [], ◌∙◌, List, true, false, ap, sym, length, refl}
+use Rattle.std.proofs.Common.{◌≡◌, ◌++◌, ◌∷◌, [], ◌∙◌, List, true, false, ap, sym, length}
 use Rattle.std.proofs.Common.{append-nil}
 use Rattle.std.specs.Prelude.{codes}
+use Rattle.std.specs.Option.{option_to_list}
 use Rattle.std.specs.Str.{bytes_eq}
 use Rattle.std.proofs.lemmas.Bool.{eqb-true}
 use Rattle.std.proofs.lemmas.List.{nil_from_length}
@@ -26,10 +27,25 @@ loop-rest-preserved c =
     let after = c.split_at_byte.result.1.now in
     let on : bytes_eq piece (codes "--") ≡ false
     = ap (λ d. bytes_eq piece d) (sym c.as_slice.ensures) ∙ sym c.eq.ensures ∙ c.if-eq.false in
-    ap (λ (l : List Setting). l ++ settings params after) c.in_ok-push_setting.ensures
+    ap (λ (l : List Setting). l ++ settings params after)
+    (sym (append-nil c.loop-rest.settings.items))
     ∙ setting_taken params c.args.options.now c.loop-rest.rest.now piece after
-    c.loop-rest.settings.items _ c.loop-rest.invariant c.split_at_byte.ensures.before
-    c.split_at_byte.ensures.after on refl
+    c.loop-rest.settings.items [] c.loop-rest.invariant c.split_at_byte.ensures.before
+    c.split_at_byte.ensures.after on
+    (ap option_to_list (sym c.in_default.is) ∙ c.in_ok-setting.ensures)
+
+pub loop-rest-preserved-in_ok-push : goal.loop-rest-preserved-in_ok-push
+loop-rest-preserved-in_ok-push c =
+    let params = c.args.params.now.list.items in
+    let piece = c.split_at_byte.result.0.now in
+    let after = c.split_at_byte.result.1.now in
+    let on : bytes_eq piece (codes "--") ≡ false
+    = ap (λ d. bytes_eq piece d) (sym c.as_slice.ensures) ∙ sym c.eq.ensures ∙ c.if-eq.false in
+    ap (λ (l : List Setting). l ++ settings params after) c.in_ok-push.ensures.items
+    ∙ setting_taken params c.args.options.now c.loop-rest.rest.now piece after
+    c.loop-rest.settings.items (c.in-Some.setting ∷ []) c.loop-rest.invariant
+    c.split_at_byte.ensures.before c.split_at_byte.ensures.after on
+    (ap option_to_list (sym c.in-Some.is) ∙ c.in_ok-setting.ensures)
 
 pub returns : goal.returns
 returns c =

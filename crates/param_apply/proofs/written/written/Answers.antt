@@ -5,16 +5,16 @@ use Rattle.param_apply.specs.Words.{Setting}
 use Rattle.param_apply.specs.Writing.{AreClaims}
 use Rattle.param_apply.proofs.WrittenLemmas.{count-named, item-read, words-failed, words-passed}
 use Rattle.param_apply.proofs.WrittenLemmas.{written-more, written-none}
-use Rattle.param_apply.proofs.written.write_all.Goals as goal
+use Rattle.param_apply.proofs.written.written.Goals as goal
 
 pub loop-setting-init : goal.loop-setting-init
 loop-setting-init c =
     let long = c.in_ok-taken.ensures.length in
-    written-none c.args.image.now c.args.image.now c.in_ok-claims.claims c.args.object.now
+    written-none c.args.image.now c.in_ok-copy.copy c.in_ok-claims.claims c.args.object.now
     c.args.params.now c.args.settings.now
     (c.in_ok-claims.ensures.claims c.args.object.now c.args.params.now refl
     (λ x less. c.in_ok-taken.ensures.reserved x (omega arith)))
-    (ap length c.in_ok-claims.ensures.taken ∙ long ∙ ap length c.as_bytes.ensures) refl
+    (ap length c.in_ok-claims.ensures.taken ∙ long) c.in_ok-copy.ensures
 
 pub write-requires-clause-number : goal.write-requires-clause-number
 write-requires-clause-number c =
@@ -28,7 +28,7 @@ loop-setting-preserved c =
     let s = c.setting-item.result in
     let o = c.args.object.now in
     let was = c.loop-setting.invariant in
-    written-more c.args.image.now c.loop-setting.image c.write.new.image c.loop-setting.claims
+    written-more c.args.image.now c.loop-setting.copy c.write.new.image c.loop-setting.claims
     c.write.new.claims o c.args.params.now ss i s was
     (item-read ss i s c.loop-setting-test.true c.setting-item.is)
     (c.in_ok-write.ensures.claims o (take i ss) was.claims) c.in_ok-write.ensures.same
@@ -49,7 +49,7 @@ returns-in_err-write-clause-fault c =
     (elim c.in_err-write.ensures.fault [
       | inl memory ↦ inl memory
       | inr failed ↦ inr
-          (words-failed c.args.image.now c.loop-setting.image c.loop-setting.claims o
+          (words-failed c.args.image.now c.loop-setting.copy c.loop-setting.claims o
           c.args.params.now ss i s _ was
           (item-read ss i s c.loop-setting-test.true c.setting-item.is)
           (failed o (take i ss) was.claims))
@@ -68,6 +68,6 @@ returns-clause-count c =
 
 pub returns-clause-passed : goal.returns-clause-passed
 returns-clause-passed c =
-    words-passed c.args.image.now c.loop-setting.image c.loop-setting.claims c.args.object.now
+    words-passed c.args.image.now c.loop-setting.copy c.loop-setting.claims c.args.object.now
     c.args.params.now c.args.settings.now c.loop-setting.setting-index c.loop-setting.invariant
     (omega arith)

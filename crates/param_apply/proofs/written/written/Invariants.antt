@@ -1,0 +1,6 @@
+use Rattle.param_apply.specs.Writing.{IsWritten}
+use Rattle.param_apply.proofs.written.written.Given as goal
+
+abbrev pub invariant-loop-setting : goal.invariant-loop-setting
+invariant-loop-setting l =
+    IsWritten l.image l.copy l.claims l.object l.params l.settings l.setting-index
