@@ -269,7 +269,8 @@ fn param_at<'a>(
     requires within { table.at + table.size ≤ length image.now }
     requires entry { 40 * k + 40 ≤ table.size }
     requires short { table.size ≤ file_limit }
-    ensures param { IfOk result (λ p. p ≡ parameter types.now.texts (entry image.now base table k)) }
+    ensures param { IfOk result
+        (λ p. p ≡ parameter types.now.texts (entry image.now base table k)) }
     ensures names { IfOk result (λ p. length p.name ≤ left) }
     ensures passed { OnOk result (entry_fault image.now base table k ≡ None) }
     ensures fault { IfErr result
