@@ -6,9 +6,8 @@ ghost use Rattle.param_apply.specs.Applied.{count_of, finished, param_fault};
 use crate::ParamFault;
 use crate::parameter::Parameters;
 use crate::setting::settings;
-use crate::table::{entries, table_of};
+use crate::table::table_of;
 use crate::written::written;
-use image_layout::Layout;
 use module_facts::Module;
 use raw_image::Image;
 use std::alloc::Global;
@@ -55,17 +54,7 @@ pub fn apply_params(
 {
     let object = &module.object;
     let table = table_of(object);
-    let entries = entries(alloc, image, base, table)?;
-    let params = Parameters::new(alloc, object, &entries)?;
+    let params = Parameters::in_image(alloc, object, table, base, image)?;
     let settings = settings(alloc, &params, options)?;
-    let layout = Layout::new(alloc, object)?;
-    written(
-        alloc,
-        object,
-        &layout,
-        table,
-        image,
-        &params.list,
-        &settings,
-    )
+    written(alloc, object, table, image, &params.list, &settings)
 }

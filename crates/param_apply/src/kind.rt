@@ -1,13 +1,14 @@
 // The types of parameters. The kernel's include/linux/moduleparam.h, module_param.
 
 ghost use Rattle.std.specs.Prelude.{◌≡◌, ◌<◌, ◌≤◌, ◌^◌, option_copied, IfSome};
+ghost use Rattle.std.specs.Str.{bytes_eq};
 ghost use Rattle.param_apply.specs.Numbers.{bytes_in, numbers_in};
 ghost use Rattle.param_apply.specs.Kinds.{kind_of, number_of, stated, width_of};
 
 use crate::number::{signed, truth, unsigned};
 
 /// The number of bytes of a number.
-#[derive(Clone, Copy, Debug)]
+#[derive(Clone, Copy)]
 pub(crate) enum Width {
     /// 1.
     One,
@@ -48,7 +49,7 @@ impl Width {
 }
 
 /// The type of a parameter.
-#[derive(Clone, Copy, Debug)]
+#[derive(Clone, Copy)]
 pub(crate) enum ParamType {
     /// A number without a sign.
     Unsigned(Width),
@@ -63,23 +64,23 @@ pub(crate) enum ParamType {
 pub(crate) fn kind_of(text: &[u8]) -> Option<ParamType>
     ensures { result ≡ kind_of text.now }
 {
-    if text == b"byte".as_slice() {
+    if is_word(text, b"byte") {
         Some(ParamType::Unsigned(Width::One))
-    } else if text == b"ushort".as_slice() {
+    } else if is_word(text, b"ushort") {
         Some(ParamType::Unsigned(Width::Two))
-    } else if text == b"uint".as_slice() {
+    } else if is_word(text, b"uint") {
         Some(ParamType::Unsigned(Width::Four))
-    } else if text == b"ulong".as_slice() {
+    } else if is_word(text, b"ulong") {
         Some(ParamType::Unsigned(Width::Eight))
-    } else if text == b"ullong".as_slice() {
+    } else if is_word(text, b"ullong") {
         Some(ParamType::Unsigned(Width::Eight))
-    } else if text == b"short".as_slice() {
+    } else if is_word(text, b"short") {
         Some(ParamType::Signed(Width::Two))
-    } else if text == b"int".as_slice() {
+    } else if is_word(text, b"int") {
         Some(ParamType::Signed(Width::Four))
-    } else if text == b"long".as_slice() {
+    } else if is_word(text, b"long") {
         Some(ParamType::Signed(Width::Eight))
-    } else if text == b"bool".as_slice() {
+    } else if is_word(text, b"bool") {
         Some(ParamType::Truth)
     } else {
         None
@@ -122,4 +123,11 @@ impl ParamType {
             (None, _) => None,
         }
     }
+}
+
+/// Returns whether a text is this word.
+fn is_word(text: &[u8], word: &[u8]) -> bool
+    ensures { result ≡ bytes_eq text.now word.now }
+{
+    text == word
 }

@@ -1,16 +1,23 @@
 // The parameters of a module.
 
-ghost use Rattle.std.specs.Prelude.{◌≡◌, map, slice_get, Some, IfOk, option_and_then};
+ghost use Rattle.std.specs.Prelude.{◌≡◌, ◌+◌, ◌-◌, ◌*◌, ◌<◌, ◌≤◌, ◌^◌, ◌⊎◌, ℕ, List, [], ◌∷◌, ◌++◌};
+ghost use Rattle.std.specs.Prelude.{Option, None, Some, length, map, slice_get, option_and_then};
+ghost use Rattle.std.specs.Prelude.{IfErr, IfOk, OnOk};
 ghost use Rattle.name_table.specs.NameTable.{IsTableOf, place_of};
+ghost use Rattle.elf_sections.specs.declared.strings.TheConstants.{NAME_LIMIT};
+ghost use Rattle.km_names.specs.Limit.{file_limit};
 ghost use Rattle.km_names.specs.Path.{underscored};
 ghost use Rattle.module_symbols.specs.Contents.{modinfo_bytes};
+ghost use Rattle.param_apply.specs.declared.fault.ParamFault.TheVariants.{Memory};
 ghost use Rattle.param_apply.specs.Kinds.{kind_of};
-ghost use Rattle.param_apply.specs.Words.{kind_named, number_named, parameter, text_name};
-ghost use Rattle.param_apply.specs.Words.{text_type, type_texts};
+ghost use Rattle.param_apply.specs.Table.{entries, entry, entry_fault, table_fault, table_of};
+ghost use Rattle.param_apply.specs.Words.{kind_named, number_named, parameter, parameters};
+ghost use Rattle.param_apply.specs.Words.{text_name, text_type, type_texts};
 
+use crate::ParamFault;
 use crate::kind::{ParamType, kind_of};
-use crate::table::EntryRef;
-use elf_object::Object;
+use crate::table::{ENTRY_SIZE, ParamTable, entry_at};
+use elf_object::{NAME_LIMIT, Object};
 use km_names::{Blob, Texts, split_at_byte, underscored};
 use modinfo_fields::field_values;
 use name_table::OwnedNameTable;
@@ -43,17 +50,28 @@ pub(crate) struct Parameters<'a> {
 }
 
 impl<'a> Parameters<'a> {
-    /// Returns the parameters of an object, by the entries of its table.
-    pub(crate) fn new(
+    /// Returns the parameters of an object, by its table in an image at a base.
+    ///
+    /// # Errors
+    ///
+    /// `BadParamTable` if the table can't be read, or `Memory`.
+    pub(crate) fn in_image(
         alloc: Global,
         object: &Object,
-        entries: &[EntryRef<'a>],
-    ) -> Result<Parameters<'a>, AllocError>
-        ensures { IfOk result
-            (λ p. p.list.items ≡ map (parameter (type_texts object.now)) entries.now) }
+        table: ParamTable,
+        base: u64,
+        image: &'a [u8],
+    ) -> Result<Parameters<'a>, ParamFault>
+        requires table { table ≡ table_of object.now }
+        requires within { table.at + table.size ≤ length image.now }
+        requires short { table.size ≤ file_limit }
+        ensures params { IfOk result (λ p. p.list.items ≡ parameters object.now base image.now) }
+        ensures few { IfOk result (λ p. length p.list.items < 2 ^ 32) }
+        ensures passed { OnOk result (table_fault image.now base table ≡ None) }
+        ensures fault { IfErr result
+            (λ e. (e ≡ Memory) ⊎ (table_fault image.now base table ≡ Some e)) }
     {
-        let types = Types::new(alloc, object)?;
-        let list = params_of(alloc, &types, entries)?;
+        let list = params_in(alloc, object, table, base, image)?;
         let names = param_names(alloc, &list)?;
         Ok(Parameters { list, names })
     }
@@ -106,23 +124,27 @@ impl Types {
     }
 }
 
-/// Returns the parameters of these entries.
-fn params_of<'a>(
+/// Returns the parameters of an object, by its table in an image at a base.
+///
+/// # Errors
+///
+/// `BadParamTable` if the table can't be read, or `Memory`.
+fn params_in<'a>(
     alloc: Global,
-    types: &Types,
-    entries: &[EntryRef<'a>],
-) -> Result<Vec<ParamRef<'a>>, AllocError>
-    ensures { IfOk result (λ v. v.items ≡ map (parameter types.now.texts) entries.now) }
+    object: &Object,
+    table: ParamTable,
+    base: u64,
+    image: &'a [u8],
+) -> Result<Vec<ParamRef<'a>>, ParamFault>
+    requires within { table.at + table.size ≤ length image.now }
+    requires short { table.size ≤ file_limit }
+    ensures params { IfOk result
+        (λ v. v.items ≡ map (parameter (type_texts object.now)) (entries image.now base table)) }
+    ensures passed { OnOk result (table_fault image.now base table ≡ None) }
+    ensures fault { IfErr result (λ e. (e ≡ Memory) ⊎ (table_fault image.now base table ≡ Some e)) }
 {
-    let mut list = Vec::with_capacity(alloc, entries.len())?;
-    for entry in entries {
-        list.push(ParamRef {
-            name: entry.name,
-            at: entry.at,
-            kind: types.kind_named(alloc, entry.name)?,
-        })?;
-    }
-    Ok(list)
+    let types = Types::new(alloc, object)?;
+    params_of(alloc, &types, table, base, image)
 }
 
 /// Returns the table of the names of parameters.
@@ -135,8 +157,7 @@ fn param_names(alloc: Global, list: &[ParamRef]) -> Result<OwnedNameTable, Alloc
     }
     let mut names = OwnedNameTable::new(alloc);
     for param in list {
-        let name = underscored(alloc, param.name)?;
-        names.push(alloc, Some(name.as_bytes()))?;
+        push_name(alloc, &mut names, param.name)?;
     }
     Ok(names)
 }
@@ -151,6 +172,43 @@ fn place_named(
 {
     let name = underscored(alloc, name)?;
     Ok(table.place(name.as_bytes()))
+}
+
+/// Returns the parameters of a table in an image at a base, by their types.
+///
+/// # Errors
+///
+/// `BadParamTable` at the first entry whose name isn't in the image, or at the last one if it isn't
+/// whole. Or `Memory`.
+fn params_of<'a>(
+    alloc: Global,
+    types: &Types,
+    table: ParamTable,
+    base: u64,
+    image: &'a [u8],
+) -> Result<Vec<ParamRef<'a>>, ParamFault>
+    requires within { table.at + table.size ≤ length image.now }
+    requires short { table.size ≤ file_limit }
+    ensures params { IfOk result
+        (λ v. v.items ≡ map (parameter types.now.texts) (entries image.now base table)) }
+    ensures passed { OnOk result (table_fault image.now base table ≡ None) }
+    ensures fault { IfErr result (λ e. (e ≡ Memory) ⊎ (table_fault image.now base table ≡ Some e)) }
+{
+    let size = table.size as usize;
+    let count = size / ENTRY_SIZE;
+    let mut params = Vec::with_capacity(alloc, count)?;
+    let mut left = NAME_LIMIT;
+    for k in 0..count {
+        let param = param_at(alloc, types, image, base, table, k, left)?;
+        left -= param.name.len();
+        params.push(param)?;
+    }
+    if size % ENTRY_SIZE != 0 {
+        return Err(ParamFault::BadParamTable {
+            entry: count as u32,
+        });
+    }
+    Ok(params)
 }
 
 /// Returns the bytes of the section `.modinfo`.
@@ -176,8 +234,53 @@ fn text_names(alloc: Global, texts: &[Blob]) -> Result<OwnedNameTable, AllocErro
     let mut names = OwnedNameTable::new(alloc);
     for text in texts {
         let (name, _) = split_at_byte(text.as_bytes(), b':');
-        let name = underscored(alloc, name)?;
-        names.push(alloc, Some(name.as_bytes()))?;
+        push_name(alloc, &mut names, name)?;
     }
     Ok(names)
+}
+
+/// Adds a name to a table, with each `-` replaced by `_`.
+fn push_name(alloc: Global, names: &mut OwnedNameTable, name: &[u8]) -> Result<(), AllocError>
+    requires { names.old.count < 2 ^ 32 - 1 }
+    ensures table { OnOk result ((items : List (Option (List ℕ))) → IsTableOf names.old items
+        → IsTableOf names.new (items ++ Some (underscored name.now) ∷ [])) }
+    ensures count { OnOk result (names.new.count ≡ names.old.count + 1) }
+{
+    let name = underscored(alloc, name)?;
+    names.push(alloc, Some(name.as_bytes()))
+}
+
+/// Returns the parameter of the entry `k` of a table in an image at a base. Names may have `left`
+/// bytes more.
+///
+/// # Errors
+///
+/// `BadParamTable` if its name isn't in the image, or `Memory`.
+fn param_at<'a>(
+    alloc: Global,
+    types: &Types,
+    image: &'a [u8],
+    base: u64,
+    table: ParamTable,
+    k: usize,
+    left: usize,
+) -> Result<ParamRef<'a>, ParamFault>
+    requires left { left ≤ NAME_LIMIT }
+    requires within { table.at + table.size ≤ length image.now }
+    requires entry { 40 * k + 40 ≤ table.size }
+    requires short { table.size ≤ file_limit }
+    ensures param { IfOk result
+        (λ p. p ≡ parameter types.now.texts (entry image.now base table k)) }
+    ensures names { IfOk result (λ p. length p.name ≤ left) }
+    ensures passed { OnOk result (entry_fault image.now base table k ≡ None) }
+    ensures fault { IfErr result
+        (λ e. (e ≡ Memory) ⊎ (entry_fault image.now base table k ≡ Some e)) }
+{
+    let entry = entry_at(image, base, table, k, left)?;
+    let kind = types.kind_named(alloc, entry.name)?;
+    Ok(ParamRef {
+        name: entry.name,
+        at: entry.at,
+        kind,
+    })
 }

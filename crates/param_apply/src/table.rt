@@ -7,8 +7,8 @@ ghost use Rattle.image_layout.specs.Offsets.{image_size, offset};
 ghost use Rattle.km_names.specs.Limit.{file_limit};
 ghost use Rattle.km_names.specs.Strings.{string_at};
 ghost use Rattle.param_apply.specs.declared.fault.ParamFault.TheVariants.{Memory};
-ghost use Rattle.param_apply.specs.Table.{entries as entries_spec, entry as entry_spec};
-ghost use Rattle.param_apply.specs.Table.{entry_fault, place_of, table_at, table_fault, table_of};
+ghost use Rattle.param_apply.specs.Table.{entry as entry_spec, entry_fault, place_of, table_at};
+ghost use Rattle.param_apply.specs.Table.{table_of};
 
 use crate::ParamFault;
 use elf_object::{NAME_LIMIT, Object};
@@ -18,13 +18,13 @@ use std::alloc::{AllocError, Global};
 use std::marker::Model;
 
 /// The size of an entry in bytes.
-const ENTRY_SIZE: usize = 40;
+pub(crate) const ENTRY_SIZE: usize = 40;
 
 /// The place of the address of the value in an entry. The address of the name is at its beginning.
 const VALUE_FIELD: usize = 32;
 
 /// The table of parameters: its place in the image, and its size in bytes.
-#[derive(Clone, Copy, Debug)]
+#[derive(Clone, Copy)]
 pub(crate) struct ParamTable {
     pub(crate) at: u64,
     pub(crate) size: u64,
@@ -60,65 +60,12 @@ impl<'a> Model for EntryRef<'a> {
     ghost view = { λ e. record { name = e.name.now; at = e.at } };
 }
 
-/// Returns the entries of a table in an image at a base.
-///
-/// # Errors
-///
-/// `BadParamTable` at the first entry whose name isn't in the image, or at the last one if it isn't
-/// whole. Or `Memory`.
-pub(crate) fn entries(
-    alloc: Global,
-    image: &[u8],
-    base: u64,
-    table: ParamTable,
-) -> Result<Vec<EntryRef<'_>>, ParamFault>
-    requires within { table.at + table.size ≤ length image.now }
-    requires short { table.size ≤ file_limit }
-    ensures entries { IfOk result (λ v. v.items ≡ entries_spec image.now base table) }
-    ensures passed { OnOk result (table_fault image.now base table ≡ None) }
-    ensures fault { IfErr result (λ e. (e ≡ Memory) ⊎ (table_fault image.now base table ≡ Some e)) }
-{
-    let size = table.size as usize;
-    let count = size / ENTRY_SIZE;
-    let mut entries = Vec::with_capacity(alloc, count)?;
-    let mut left = NAME_LIMIT;
-    for k in 0..count {
-        let entry = entry_at(image, base, table, k, left)?;
-        left -= entry.name.len();
-        entries.push(entry)?;
-    }
-    if size % ENTRY_SIZE != 0 {
-        return Err(ParamFault::BadParamTable {
-            entry: count as u32,
-        });
-    }
-    Ok(entries)
-}
-
-/// Returns the section `i` as a table, which is empty if the section isn't in memory.
-fn table_at(object: &Object, i: u32) -> ParamTable
-    requires section { i < length object.now.sections }
-    requires fits { image_size object.now.sections < 2 ^ 63 }
-    ensures table { IfSome (slice_get object.now.sections i)
-        (λ s. result ≡ table_at object.now (offset object.now.sections i) s) }
-    ensures within { result.at + result.size ≤ image_size object.now.sections }
-    ensures short { result.size ≤ file_limit }
-{
-    if !object.section(i).kept {
-        return ParamTable { at: 0, size: 0 };
-    }
-    ParamTable {
-        at: section_at(object, i),
-        size: object.section_bytes(i).len() as u64,
-    }
-}
-
 /// Returns the entry `k` of a table in an image at a base. Names may have `left` bytes more.
 ///
 /// # Errors
 ///
 /// `BadParamTable` if its name isn't in the image, or `Memory`.
-fn entry_at(
+pub(crate) fn entry_at(
     image: &[u8],
     base: u64,
     table: ParamTable,
@@ -143,6 +90,24 @@ fn entry_at(
         name,
         at: place_of(image, base, at + VALUE_FIELD),
     })
+}
+
+/// Returns the section `i` as a table, which is empty if the section isn't in memory.
+fn table_at(object: &Object, i: u32) -> ParamTable
+    requires section { i < length object.now.sections }
+    requires fits { image_size object.now.sections < 2 ^ 63 }
+    ensures table { IfSome (slice_get object.now.sections i)
+        (λ s. result ≡ table_at object.now (offset object.now.sections i) s) }
+    ensures within { result.at + result.size ≤ image_size object.now.sections }
+    ensures short { result.size ≤ file_limit }
+{
+    if !object.section(i).kept {
+        return ParamTable { at: 0, size: 0 };
+    }
+    ParamTable {
+        at: section_at(object, i),
+        size: object.section_bytes(i).len() as u64,
+    }
 }
 
 /// Returns the string at a place of an image. Strings may have `left` bytes more, and at most one

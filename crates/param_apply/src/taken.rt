@@ -3,7 +3,7 @@
 ghost use Rattle.std.specs.Prelude.{◌≡◌, ℕ, ◌+◌, ◌<◌, ◌≤◌, ◌^◌, ◌||◌, ◌⊎◌, true, false, length};
 ghost use Rattle.std.specs.Prelude.{get_or, IfOk};
 ghost use Rattle.elf_object.specs.Object.{FileObject};
-ghost use Rattle.image_layout.specs.Offsets.{offsets};
+ghost use Rattle.image_layout.specs.Offsets.{image_size, offsets};
 ghost use Rattle.param_apply.specs.Places.{is_among, is_relocated_by, is_reserved};
 ghost use Rattle.param_apply.specs.Table.{table_of};
 
@@ -33,19 +33,19 @@ pub(crate) fn mark(taken: &mut Vec<bool>, at: u128, size: u64)
 pub(crate) fn reserved(
     alloc: Global,
     object: &Object,
-    layout: &Layout,
     table: ParamTable,
     len: usize,
 ) -> Result<Vec<bool>, AllocError>
-    requires layout { layout.now ≡ offsets object.now.sections }
+    requires fits { image_size object.now.sections < 2 ^ 63 }
     requires table { table ≡ table_of object.now }
     ensures length { IfOk result (λ v. length v.items ≡ len) }
     ensures reserved { IfOk result
         (λ v. (x : ℕ) → x < len → get_or v.items x false ≡ is_reserved object.now x) }
 {
+    let layout = Layout::new(alloc, object)?;
     let mut taken = vec![in alloc; false; len]?;
     for i in 0..object.place_count() {
-        mark_place(&mut taken, layout, object.place(i));
+        mark_place(&mut taken, &layout, object.place(i));
     }
     mark(&mut taken, u128::from(table.at), table.size);
     Ok(taken)

@@ -3,7 +3,7 @@
 ghost use Rattle.std.specs.Prelude.{◌≡◌, ℕ, ◌+◌, ◌<◌, ◌≤◌, ◌^◌, ◌⊎◌, List, ◌∷◌, [], ◌++◌, All};
 ghost use Rattle.std.specs.Prelude.{length, map, None, Some, IfErr, IfOk, OnOk};
 ghost use Rattle.elf_object.specs.Object.{FileObject};
-ghost use Rattle.image_layout.specs.Offsets.{offsets};
+ghost use Rattle.image_layout.specs.Offsets.{image_size};
 ghost use Rattle.raw_image.specs.Bytes.{with_bytes};
 ghost use Rattle.param_apply.specs.declared.fault.ParamFault.TheVariants.{Memory};
 ghost use Rattle.param_apply.specs.Applied.{named_count, piece, setting_fault, with_pieces};
@@ -19,7 +19,6 @@ use crate::table::ParamTable;
 use crate::taken::reserved;
 use crate::{ParamFault, Params};
 use elf_object::Object;
-use image_layout::Layout;
 use raw_image::Image;
 use std::alloc::{AllocError, Global};
 
@@ -31,13 +30,12 @@ use std::alloc::{AllocError, Global};
 pub(crate) fn written(
     alloc: Global,
     object: &Object,
-    layout: &Layout,
     table: ParamTable,
     image: &[u8],
     params: &[ParamRef],
     settings: &[SettingRef],
 ) -> Result<Params, ParamFault>
-    requires layout { layout.now ≡ offsets object.now.sections }
+    requires fits { image_size object.now.sections < 2 ^ 63 }
     requires table { table ≡ table_of object.now }
     requires few { length params.now < 2 ^ 32 }
     requires numbers { All (λ s. s.number < length params.now) settings.now }
@@ -51,7 +49,7 @@ pub(crate) fn written(
         ⊎ (words_fault object.now params.now (length image.now) settings.now ≡ Some e)) }
 {
     let mut copy = copied(alloc, image)?;
-    let taken = reserved(alloc, object, layout, table, image.len())?;
+    let taken = reserved(alloc, object, table, image.len())?;
     let mut claims = Claims::new(alloc, taken, params.len())?;
     for setting in settings {
         write(alloc, &mut copy, &mut claims, params, setting)?;

@@ -7,10 +7,10 @@ use Rattle.param_apply.proofs.parameter.text_names.Goals as goal
 pub loop-text-preserved : goal.loop-text-preserved
 loop-text-preserved c = record {
   table =
-      table-more c.push.new.self text_name c.args.texts.now c.loop-text.text-index
-      c.text-item.result c.as_bytes-in-loop-text.result.now c.loop-text-test.true c.text-item.is
-      (c.as_bytes-in-loop-text.ensures ∙ c.in_ok-name.ensures
-      ∙ ap underscored (c.split_at_byte.ensures.before ∙ ap text_name c.as_bytes.ensures))
-      (c.in_ok-push.ensures.ok _ c.loop-text.invariant.table);
-  count = c.in_ok-push.ensures.count ∙ ap (λ n. n + 1) c.loop-text.invariant.count;
+      table-more c.push_name.new.names text_name c.args.texts.now c.loop-text.text-index
+      c.text-item.result (underscored c.split_at_byte.result.0.now) c.loop-text-test.true
+      c.text-item.is
+      (ap underscored (c.split_at_byte.ensures.before ∙ ap text_name c.as_bytes.ensures))
+      (c.in_ok-push_name.ensures.table _ c.loop-text.invariant.table);
+  count = c.in_ok-push_name.ensures.count ∙ ap (λ n. n + 1) c.loop-text.invariant.count;
 }

@@ -24,7 +24,7 @@ mark_place-requires c =
     omega (
       arith,
       c.place.ensures.inside.target,
-      length_layout c.args.object.now.sections c.args.layout.now c.requires.layout,
+      length_layout c.args.object.now.sections c.in_ok-layout.layout c.in_ok-layout.ensures,
     )
 
 pub loop-i-preserved : goal.loop-i-preserved
@@ -36,7 +36,7 @@ loop-i-preserved c =
       length = c.mark_place.ensures.same ∙ c.loop-i.invariant.length;
       taken = λ x less.
           let inside : x < length c.loop-i.taken.items = omega (arith, c.loop-i.invariant.length) in
-          c.mark_place.ensures.marked o c.requires.layout x inside
+          c.mark_place.ensures.marked o c.in_ok-layout.ensures x inside
           ∙ ap (λ b. b || is_relocated_by o x p) (c.loop-i.invariant.taken x less)
           ∙ sym (any-more (is_relocated_by o x) o.places i p c.place.ensures.place);
     }
