@@ -93,15 +93,18 @@ fn words_for(
     let version = Name::from_slice(alloc, version.as_bytes())?;
     let basedir: PathText = bytes_or(alloc, matches, "basedir", b"/")?;
     let outdir = bytes_or(alloc, matches, "outdir", basedir.as_bytes())?;
+    let config = bytes_of(alloc, matches, "config")?;
+    let filesyms = bytes_of(alloc, matches, "filesyms")?;
+    let symvers = bytes_of(alloc, matches, "symvers")?;
     Ok(DepmodWords {
         dry_run: is_given(matches, "dry-run"),
         errsyms: is_given(matches, "errsyms"),
         extra: is_given(matches, "extra"),
         basedir,
         outdir,
-        config: bytes_of(alloc, matches, "config")?,
-        filesyms: bytes_of(alloc, matches, "filesyms")?,
-        symvers: bytes_of(alloc, matches, "symvers")?,
+        config,
+        filesyms,
+        symvers,
         version,
     })
 }

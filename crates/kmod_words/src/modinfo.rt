@@ -122,10 +122,12 @@ fn words_for(
 {
     let basedir = bytes_or(alloc, matches, "basedir", b"/")?;
     let words = words_of(alloc, matches, "words")?;
+    let field = name_of(alloc, key)?;
+    let version = bytes_of(alloc, matches, "set-version")?;
     Ok(ModinfoWords {
-        field: name_of(alloc, key)?,
+        field,
         zero: is_given(matches, "null"),
-        version: bytes_of(alloc, matches, "set-version")?,
+        version,
         basedir,
         words,
     })

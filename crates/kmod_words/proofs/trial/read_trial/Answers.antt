@@ -1,4 +1,4 @@
-use Rattle.std.proofs.Common.{◌≤◌, map, sym, subst}
+use Rattle.std.proofs.Common.{◌≤◌, sym, subst}
 use Rattle.std.specs.Prelude.{IfSome}
 use Rattle.std.proofs.lemmas.Result.{IfOk-weaker}
 use Rattle.kmod_words.specs.Trial.{trial_command}
