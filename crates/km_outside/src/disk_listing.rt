@@ -1,7 +1,7 @@
 // A folder of the machine, listed.
 
-ghost use Rattle.std.specs.Prelude.{◌≡◌, ◌≤◌, All, Bool, IfErr, IfOk, List, OnOk, length, map};
-ghost use Rattle.std.specs.Prelude.{true, vec_len, ℕ};
+ghost use Rattle.std.specs.Prelude.{◌≡◌, ◌+◌, ◌<◌, ◌≤◌, All, Bool, IfErr, IfOk, List, OnOk, length};
+ghost use Rattle.std.specs.Prelude.{map, string_bytes, true, vec_len, ℕ};
 ghost use Rattle.std.specs.List.Sorted.{IsStrictlySortedBy};
 ghost use Rattle.km_outside.specs.Contents.{by_bytes};
 ghost use Rattle.km_outside.specs.DiskSeen.{IsPast};
@@ -105,31 +105,10 @@ impl Walk {
         ensures past { IfErr result (IsPast list_limit) }
     {
         while let Some(folder) = self.pending.pop() {
-            self.read_folder(rt, alloc, top, folder.as_str())?;
+            let entries = open_below(rt, alloc, top, folder.as_str())?;
+            self.read_entries(rt, alloc, folder.as_str(), entries)?;
         }
         Ok(())
-    }
-
-    /// Reads one folder below the walk's.
-    fn read_folder<R: rt::Files + AllocGlobal + Clone + Drop>(
-        &mut self,
-        rt: &R,
-        alloc: Global,
-        top: &str,
-        folder: &str,
-    ) -> Result<(), FileAnswer>
-        requires { IsSoundWalk self.old }
-        ensures sound { OnOk result (IsSoundWalk self.new) }
-        ensures left { OnOk result (walk_left self.new ≤ walk_left self.old) }
-        ensures listing { self.new.listing ≡ self.old.listing }
-        ensures past { IfErr result (IsPast list_limit) }
-    {
-        let mut path = String::from_str(alloc, top)?;
-        path.push_str(folder)?;
-        match fs::read_dir(rt, path.as_str()) {
-            Ok(entries) => self.read_entries(rt, alloc, folder, entries),
-            Err(error) => Err(answer_below(error)),
-        }
     }
 
     /// Reads the entries of one folder.
@@ -169,17 +148,43 @@ impl Walk {
         ensures listing { self.new.listing ≡ self.old.listing }
         ensures past { IfErr result (IsPast list_limit) }
     {
+        self.meet()?;
+        let path = joined(alloc, folder, entry.file_name())?;
+        if !self.listing.lists(path.as_bytes()) {
+            return Ok(());
+        }
+        let kind = kind_of_entry(rt, self.listing, entry)?;
+        self.keep(kind, path)
+    }
+
+    /// Counts one more entry that is met, if it is within the limit.
+    fn meet(&mut self) -> Result<(), FileAnswer>
+        requires { IsSoundWalk self.old }
+        ensures sound { OnOk result (IsSoundWalk self.new) }
+        ensures room { OnOk result (vec_len self.new.found < self.new.met) }
+        ensures left { OnOk result (walk_left self.new + 2 ≤ walk_left self.old) }
+        ensures listing { self.new.listing ≡ self.old.listing }
+        ensures past { IfErr result (IsPast list_limit) }
+    {
         if self.met >= LIST_LIMIT {
             let length = LIST_LIMIT as u64 + 1;
             return Err(FileAnswer::TooLarge { length });
         }
         self.met += 1;
-        let mut path = String::from_str(alloc, folder)?;
-        path.push_str(entry.file_name())?;
-        if !self.listing.lists(path.as_bytes()) {
-            return Ok(());
-        }
-        match kind_of_entry(rt, self.listing, entry)? {
+        Ok(())
+    }
+
+    /// Keeps the path of an entry that was met: as found, or as a folder that is still to be read.
+    fn keep(&mut self, kind: EntryKind, mut path: String) -> Result<(), FileAnswer>
+        requires sound { IsSoundWalk self.old }
+        requires room { vec_len self.old.found < self.old.met }
+        requires fits { test_of self.old.listing (string_bytes path) ≡ true }
+        ensures sound { OnOk result (IsSoundWalk self.new) }
+        ensures left { OnOk result (walk_left self.new ≤ walk_left self.old + 1) }
+        ensures listing { self.new.listing ≡ self.old.listing }
+        ensures past { IfErr result (IsPast list_limit) }
+    {
+        match kind {
             EntryKind::File => self.found.push(path.into_bytes())?,
             EntryKind::Folder => {
                 path.push('/')?;
@@ -200,6 +205,29 @@ fn as_list<K>(alloc: Global, paths: Vec<Vec<u8>>) -> Result<List<Bytes<K>>, Allo
         list.push(Bytes::from_vec(path))?;
     }
     Ok(list)
+}
+
+/// Opens a folder below the one that is listed.
+fn open_below<R: rt::Files + AllocGlobal + Clone + Drop>(
+    rt: &R,
+    alloc: Global,
+    top: &str,
+    folder: &str,
+) -> Result<ReadDir<R>, FileAnswer>
+    ensures { IfErr result (IsPast list_limit) }
+{
+    let path = joined(alloc, top, folder)?;
+    match fs::read_dir(rt, path.as_str()) {
+        Ok(entries) => Ok(entries),
+        Err(error) => Err(answer_below(error)),
+    }
+}
+
+/// Returns the path of a name in a folder, which has a slash at its end.
+fn joined(alloc: Global, folder: &str, name: &str) -> Result<String, AllocError> {
+    let mut path = String::from_str(alloc, folder)?;
+    path.push_str(name)?;
+    Ok(path)
 }
 
 /// Returns the answer to an error of the system below the folder that is listed, when the folder

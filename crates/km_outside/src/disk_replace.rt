@@ -26,17 +26,11 @@ pub(crate) fn replace_file<R: rt::Files>(
     let Ok(path) = str::from_utf8(path.as_bytes()) else {
         return Err(ReplaceAnswer::Failed);
     };
-    let NewFile {
-        mut file,
-        path: new,
-    } = create_beside(rt, alloc, path)?;
-    let written = fill(&mut file, bytes);
-    drop(file);
-    let renamed = written.and_then(|()| fs::rename(rt, new.as_str(), path));
-    if let Err(error) = renamed {
+    let NewFile { file, path: new } = create_beside(rt, alloc, path)?;
+    if let Err(error) = put_in_place(rt, file, bytes, new.as_str(), path) {
         // It isn't needed any more. If even this fails it stays, under a name that nothing reads.
         let _ = fs::remove_file(rt, new.as_str());
-        return Err(answer_to(&error));
+        return Err(answer_to(error.kind()));
     }
     Ok(())
 }
@@ -58,32 +52,43 @@ fn create_beside<R: rt::Files>(
         let new = format!(in alloc; "{path}.{number}.new")?;
         match create_new(rt, new.as_str()) {
             Ok(file) => return Ok(NewFile { file, path: new }),
-            Err(error) if error.kind() == ErrorKind::AlreadyExists => {}
-            Err(error) => return Err(answer_to(&error)),
+            Err(ErrorKind::AlreadyExists) => {}
+            Err(kind) => return Err(answer_to(kind)),
         }
     }
     Err(ReplaceAnswer::Failed)
 }
 
-/// Writes the bytes to the file, and flushes it to the disk.
-fn fill<F: io::Write + OpenFile>(file: &mut F, bytes: &[u8]) -> io::Result<()> {
-    write_whole(file, bytes).map_err(|_| io::Error::from(ErrorKind::Other))?;
-    file.sync_all()
+/// Writes the bytes to the new file, flushes it to the disk, and gives it the name of the old one.
+fn put_in_place<R: rt::Files>(
+    rt: &R,
+    mut file: R::File,
+    bytes: &[u8],
+    new: &str,
+    path: &str,
+) -> io::Result<()> {
+    write_whole(&mut file, bytes).map_err(|_| io::Error::from(ErrorKind::Other))?;
+    file.sync_all()?;
+    drop(file);
+    fs::rename(rt, new, path)
 }
 
 /// Returns the answer to an error of the system.
-fn answer_to(error: &io::Error) -> ReplaceAnswer {
-    match error.kind() {
+fn answer_to(kind: ErrorKind) -> ReplaceAnswer {
+    match kind {
         ErrorKind::OutOfMemory => ReplaceAnswer::Memory,
         _ => ReplaceAnswer::Failed,
     }
 }
 
 /// Makes a file if none exists.
-fn create_new<R: rt::Files>(rt: &R, path: &str) -> io::Result<R::File> {
+fn create_new<R: rt::Files>(rt: &R, path: &str) -> Result<R::File, ErrorKind> {
     let mut options = OpenOptions::new();
     options.write(true);
     options.create_new(true);
     options.mode(MODE);
-    options.open(rt, path)
+    match options.open(rt, path) {
+        Ok(file) => Ok(file),
+        Err(error) => Err(error.kind()),
+    }
 }

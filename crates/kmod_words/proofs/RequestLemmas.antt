@@ -1,5 +1,5 @@
 -- Requests, from what `clap` answers on.
-use Rattle.std.proofs.Common.{◌≡◌, Bool, List, Option, Some, None, sym, ap, ap₂, ◌∙◌, if◌then◌else◌}
+use Rattle.std.proofs.Common.{◌≡◌, Bool, List, Option, Some, None, sym, ap, ◌∙◌, if◌then◌else◌}
 use Rattle.std.proofs.Common.{codes}
 use Rattle.std.specs.Prelude.{option_and_then}
 use Rattle.clap.specs.Words.{App, Row, Text}
@@ -9,19 +9,19 @@ use Rattle.kmod_words.specs.Understood.{understood, value_of, is_version}
 use Rattle.kmod_words.specs.declared.modprobe.Mode.{Mode}
 use Rattle.module_region.specs.declared.region.Region.{Region}
 
-module _ {W : Type 0} (asked : List Row → Option W) (app command : App) (words given : List Text)
-    (app_is : app ≡ command) (words_are : words ≡ given) where
+module _ {W : Type 0} (asked : List Row → Option W) (app : App) (words given : List Text)
+    (words_are : words ≡ given) where
   -- words that are understood ask for what their matches ask for
   pub asked-some : (matches : Option (List Row)) (rows : List Row) → matches ≡ understood app words
-      → matches ≡ Some rows → asked rows ≡ option_and_then asked (understood command given)
+      → matches ≡ Some rows → asked rows ≡ option_and_then asked (understood app given)
   asked-some matches rows is some
-      = ap (option_and_then asked) (sym some ∙ is ∙ ap₂ understood app_is words_are)
+      = ap (option_and_then asked) (sym some ∙ is ∙ ap (understood app) words_are)
 
   -- words that aren't ask for nothing
   pub asked-none : (matches : Option (List Row)) → matches ≡ understood app words → matches ≡ None
-      → None ≡ option_and_then asked (understood command given)
+      → None ≡ option_and_then asked (understood app given)
   asked-none matches is none
-      = ap (option_and_then asked) (sym none ∙ is ∙ ap₂ understood app_is words_are)
+      = ap (option_and_then asked) (sym none ∙ is ∙ ap (understood app) words_are)
 
 -- what the matches choose, where they have a mode, a version and a region
 pub chosen-among : (rows : List Row) (mode : Mode) (version : Text) (region : Region) (b : Bool)

@@ -1,9 +1,10 @@
 ghost use Rattle.std.specs.Prelude.{◌≡◌, IfOk, Option};
 ghost use Rattle.clap.specs.Words.{found_of, rows_of};
-ghost use Rattle.kmod_words.specs.Depmod.{depmod_request, depmod_asked, depmod_of, has_two_kernels};
+ghost use Rattle.kmod_words.specs.Depmod.{depmod_request, depmod_of, has_two_kernels};
 
-use crate::arguments::{Argument, command};
-use crate::matches::{bytes_of, bytes_or, is_given, is_version, texts_of, understood, value_of};
+use crate::arguments::Argument;
+use crate::matches::{bytes_of, bytes_or, is_given, is_version, value_of};
+use crate::request::{Request, read_request};
 use clap::ArgMatches;
 use km_names::{Name, PathText, Word};
 use std::alloc::{AllocError, Global};
@@ -46,29 +47,31 @@ pub struct DepmodWords {
 
 /// Reads what the words after `depmod` ask for. It is `None` exactly if they aren't understood.
 /// depmod(8).
+#[tactic(auto, unfolding(crate::specs::Depmod::depmod_command))]
 pub fn read_depmod(alloc: Global, words: &[Word]) -> Result<Option<DepmodWords>, AllocError>
     ensures { IfOk result (λ asked. asked ≡ depmod_request words.now) }
 {
-    let texts = texts_of(alloc, words)?;
-    let command = command(alloc, "depmod", &ARGUMENTS)?;
-    match understood(command, texts.as_slice())? {
-        Some(matches) => asked(alloc, &matches),
-        None => Ok(None),
-    }
+    read_request(alloc, "depmod", &ARGUMENTS, words)
 }
 
-/// Returns what the matches ask for.
-#[tactic(auto, unfolding(crate::specs::Depmod::depmod_asked))]
-fn asked(alloc: Global, matches: &ArgMatches<'_>) -> Result<Option<DepmodWords>, AllocError>
-    ensures { IfOk result (λ asked. asked ≡ depmod_asked (rows_of (found_of matches.now))) }
-{
-    let Some(version) = value_of(matches, "version") else {
-        return Ok(None);
-    };
-    if has_two_kernels(matches) || !is_version(version) {
-        return Ok(None);
+impl Request for DepmodWords {
+    ghost use Rattle.kmod_words.specs.Depmod.{depmod_asked};
+
+    ghost asked = { depmod_asked };
+
+    #[tactic(auto, unfolding(crate::specs::Depmod::depmod_asked))]
+    fn from_matches(
+        alloc: Global,
+        matches: &ArgMatches<'_>,
+    ) -> Result<Option<DepmodWords>, AllocError> {
+        let Some(version) = value_of(matches, "version") else {
+            return Ok(None);
+        };
+        if has_two_kernels(matches) || !is_version(version) {
+            return Ok(None);
+        }
+        Ok(Some(words_for(alloc, matches, version)?))
     }
-    Ok(Some(words_for(alloc, matches, version)?))
 }
 
 /// Returns whether both files of the kernel are given.
@@ -87,17 +90,21 @@ fn words_for(
     ensures { IfOk result
         (λ words. words ≡ depmod_of (rows_of (found_of matches.now)) version.now) }
 {
+    let version = Name::from_slice(alloc, version.as_bytes())?;
     let basedir: PathText = bytes_or(alloc, matches, "basedir", b"/")?;
     let outdir = bytes_or(alloc, matches, "outdir", basedir.as_bytes())?;
+    let config = bytes_of(alloc, matches, "config")?;
+    let filesyms = bytes_of(alloc, matches, "filesyms")?;
+    let symvers = bytes_of(alloc, matches, "symvers")?;
     Ok(DepmodWords {
         dry_run: is_given(matches, "dry-run"),
         errsyms: is_given(matches, "errsyms"),
         extra: is_given(matches, "extra"),
         basedir,
         outdir,
-        config: bytes_of(alloc, matches, "config")?,
-        filesyms: bytes_of(alloc, matches, "filesyms")?,
-        symvers: bytes_of(alloc, matches, "symvers")?,
-        version: Name::from_slice(alloc, version.as_bytes())?,
+        config,
+        filesyms,
+        symvers,
+        version,
     })
 }

@@ -15,6 +15,7 @@ mod modprobe;
 mod modprobe_request;
 mod numbers;
 mod region;
+mod request;
 mod static_nodes;
 mod trial;
 

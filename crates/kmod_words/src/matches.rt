@@ -1,13 +1,16 @@
 // The matches of words, and what is asked of them.
 ghost use Rattle.std.specs.Prelude.{◌≡◌, ◌==◌, true, IfOk, map, option_map, unwrap_or};
 ghost use Rattle.std.specs.List.{list_any};
-ghost use Rattle.clap.specs.Words.{app_of, found_of, is_simple_and_free, rows_of};
+ghost use Rattle.clap.specs.Words.{found_of, is_simple_and_free, rows_of};
+ghost use Rattle.kmod_words.specs.Arguments.{command as command_spec};
+ghost use Rattle.kmod_words.specs.Rules.{rule_for};
 ghost use Rattle.kmod_words.specs.Understood.{understood, is_given, is_from_words, value_of};
 ghost use Rattle.kmod_words.specs.Understood.{words_of, is_version};
 
+use crate::arguments::{Argument, command};
+use clap::ArgMatches;
 use clap::error::ErrorKind;
 use clap::parser::ValueSource;
-use clap::{ArgMatches, Command};
 use km_names::{Bytes, Name, Names, Word};
 use std::alloc::{AllocError, Global};
 
@@ -22,15 +25,20 @@ pub(crate) fn texts_of<'a>(alloc: Global, words: &'a [Word]) -> Result<Vec<&'a s
     Ok(texts)
 }
 
-/// Returns what `clap` makes of the words. It is `None` exactly if `clap` refuses them.
+/// Returns what `clap` makes of the words of the command of this name, which has only these
+/// arguments. It is `None` exactly if `clap` refuses them.
 pub(crate) fn understood<'a>(
-    command: Command<'a>,
+    alloc: Global,
+    name: &'a str,
+    arguments: &[Argument],
     words: &'a [&'a str],
 ) -> Result<Option<ArgMatches<'a>>, AllocError>
-    requires { is_simple_and_free (app_of command) ≡ true }
+    requires { is_simple_and_free (command_spec name.now (map rule_for arguments.now)) ≡ true }
     ensures { IfOk result (λ matches. option_map (λ m. rows_of (found_of m)) matches
-        ≡ understood (app_of command.entry) (map (λ word. word.now) words.entry.now)) }
+        ≡ understood (command_spec name.entry.now (map rule_for arguments.now))
+        (map (λ word. word.now) words.entry.now)) }
 {
+    let command = command(alloc, name, arguments)?;
     match command.try_get_matches_from(words) {
         Ok(matches) => Ok(Some(matches)),
         Err(error) => match error.kind() {

@@ -1,12 +1,11 @@
-ghost use Rattle.std.specs.Prelude.{◌≡◌, ◌++◌, IfOk, OnOk, Option, option_map, map};
-ghost use Rattle.clap.specs.Words.{found_of, rows_of};
-ghost use Rattle.kmod_words.specs.Modinfo.{modinfo_request, modinfo_asked, modinfo_of, keys_asked};
-ghost use Rattle.kmod_words.specs.Modinfo.{key_by_flag, single, is_by_name_or_path};
+ghost use Rattle.std.specs.Prelude.{◌≡◌, ◌++◌, IfOk, List, Option, option_map};
+ghost use Rattle.clap.specs.Words.{Text, found_of, rows_of};
+ghost use Rattle.kmod_words.specs.Modinfo.{modinfo_request, modinfo_of, keys_asked, key_by_flag};
+ghost use Rattle.kmod_words.specs.Modinfo.{single, is_by_name_or_path};
 
-use crate::arguments::{Argument, command};
-use crate::matches::{
-    bytes_of, bytes_or, is_given, is_version, texts_of, understood, value_of, words_of,
-};
+use crate::arguments::Argument;
+use crate::matches::{bytes_of, bytes_or, is_given, is_version, value_of, words_of};
+use crate::request::{Request, read_request};
 use clap::ArgMatches;
 use km_names::{Name, Names, PathText, Word};
 use std::alloc::{AllocError, Global};
@@ -41,76 +40,63 @@ pub struct ModinfoWords {
 
 /// Reads what the words after `modinfo` ask for. It is `None` exactly if they aren't understood.
 /// modinfo(8).
+#[tactic(auto, unfolding(crate::specs::Modinfo::modinfo_command))]
 pub fn read_modinfo(alloc: Global, words: &[Word]) -> Result<Option<ModinfoWords>, AllocError>
     ensures { IfOk result (λ asked. asked ≡ modinfo_request words.now) }
 {
-    let texts = texts_of(alloc, words)?;
-    let command = command(alloc, "modinfo", &ARGUMENTS)?;
-    match understood(command, texts.as_slice())? {
-        Some(matches) => asked(alloc, &matches),
-        None => Ok(None),
+    read_request(alloc, "modinfo", &ARGUMENTS, words)
+}
+
+impl Request for ModinfoWords {
+    ghost use Rattle.kmod_words.specs.Modinfo.{modinfo_asked};
+
+    ghost asked = { modinfo_asked };
+
+    #[tactic(auto, unfolding(crate::specs::Modinfo::modinfo_asked))]
+    fn from_matches(
+        alloc: Global,
+        matches: &ArgMatches<'_>,
+    ) -> Result<Option<ModinfoWords>, AllocError> {
+        let Some(key) = key_asked(matches) else {
+            return Ok(None);
+        };
+        if !is_by_name_or_path(matches) {
+            return Ok(None);
+        }
+        Ok(Some(words_for(alloc, matches, key)?))
     }
 }
 
-/// Returns what the matches ask for.
-#[tactic(auto, unfolding(crate::specs::Modinfo::modinfo_asked))]
-fn asked(alloc: Global, matches: &ArgMatches<'_>) -> Result<Option<ModinfoWords>, AllocError>
-    ensures { IfOk result (λ asked. asked ≡ modinfo_asked (rows_of (found_of matches.now))) }
+/// Returns the key that the matches ask for, if there is one, and nothing if there are two.
+fn key_asked<'a>(matches: &ArgMatches<'a>) -> Option<Option<&'a str>>
+    ensures { option_map (option_map (λ key. key.now)) result
+        ≡ single (keys_asked (rows_of (found_of matches.now))) }
 {
-    let keys = keys_asked(alloc, matches)?;
-    let Some(key) = single(keys.as_slice()) else {
-        return Ok(None);
-    };
-    if !is_by_name_or_path(matches) {
-        return Ok(None);
-    }
-    Ok(Some(words_for(alloc, matches, key)?))
+    let field = Some(value_of(matches, "field"));
+    let author = with_flag(field, matches, "author", "author");
+    let description = with_flag(author, matches, "description", "description");
+    let license = with_flag(description, matches, "license", "license");
+    let parameters = with_flag(license, matches, "parameters", "parm");
+    with_flag(parameters, matches, "filename", "filename")
 }
 
-/// Returns all keys that the matches ask for.
-#[tactic(auto, unfolding(crate::specs::Modinfo::keys_asked))]
-fn keys_asked<'a>(alloc: Global, matches: &ArgMatches<'a>) -> Result<Vec<&'a str>, AllocError>
-    ensures { IfOk result
-        (λ keys. map (λ key. key.now) keys.items ≡ keys_asked (rows_of (found_of matches.now))) }
-{
-    let mut keys = Vec::new(alloc);
-    if let Some(key) = value_of(matches, "field") {
-        keys.push(key)?;
-    }
-    push_key(&mut keys, matches, "author", "author")?;
-    push_key(&mut keys, matches, "description", "description")?;
-    push_key(&mut keys, matches, "license", "license")?;
-    push_key(&mut keys, matches, "parameters", "parm")?;
-    push_key(&mut keys, matches, "filename", "filename")?;
-    Ok(keys)
-}
-
-/// Puts a key at the end, if its flag is given.
-fn push_key<'a>(
-    keys: &mut Vec<&'a str>,
-    matches: &ArgMatches<'a>,
+/// Returns the one of some keys and a further one, which counts if its flag is given.
+fn with_flag<'a>(
+    asked: Option<Option<&'a str>>,
+    matches: &ArgMatches<'_>,
     flag: &str,
     key: &'a str,
-) -> Result<(), AllocError>
-    ensures ok { OnOk result (map (λ k. k.now) keys.new.items
-        ≡ map (λ k. k.now) keys.old.items
-        ++ key_by_flag (rows_of (found_of matches.now)) flag.now key.now) }
+) -> Option<Option<&'a str>>
+    ensures { (keys : List Text) → option_map (option_map (λ k. k.now)) asked.entry ≡ single keys
+        → option_map (option_map (λ k. k.now)) result
+        ≡ single (keys ++ key_by_flag (rows_of (found_of matches.now)) flag.now key.entry.now) }
 {
-    if is_given(matches, flag) {
-        keys.push(key)?;
+    if !is_given(matches, flag) {
+        return asked;
     }
-    Ok(())
-}
-
-/// Returns the key, if there is one, and nothing if there are two.
-fn single<'a>(keys: &[&'a str]) -> Option<Option<&'a str>>
-    ensures { option_map (option_map (λ key. key.now)) result
-        ≡ single (map (λ key. key.now) keys.now) }
-{
-    match keys {
-        [] => Some(None),
-        [key] => Some(Some(*key)),
-        _ => None,
+    match asked {
+        Some(None) => Some(Some(key)),
+        Some(Some(_)) | None => None,
     }
 }
 
@@ -134,12 +120,16 @@ fn words_for(
     ensures { IfOk result (λ words. words
         ≡ modinfo_of (rows_of (found_of matches.now)) (option_map (λ k. k.now) key.entry)) }
 {
+    let basedir = bytes_or(alloc, matches, "basedir", b"/")?;
+    let words = words_of(alloc, matches, "words")?;
+    let field = name_of(alloc, key)?;
+    let version = bytes_of(alloc, matches, "set-version")?;
     Ok(ModinfoWords {
-        field: name_of(alloc, key)?,
+        field,
         zero: is_given(matches, "null"),
-        version: bytes_of(alloc, matches, "set-version")?,
-        basedir: bytes_or(alloc, matches, "basedir", b"/")?,
-        words: words_of(alloc, matches, "words")?,
+        version,
+        basedir,
+        words,
     })
 }
 

@@ -3,16 +3,15 @@ ghost use Rattle.std.specs.Prelude.{◌≡◌, IfOk, Option, T, codes, is_some, 
 ghost use Rattle.clap.specs.Words.{found_of, rows_of};
 ghost use Rattle.kmod_words.specs.Understood.{value_of};
 ghost use Rattle.kmod_words.specs.Modes.{given_map};
-ghost use Rattle.kmod_words.specs.Modprobe.{modprobe_request, modprobe_asked, modprobe_of};
+ghost use Rattle.kmod_words.specs.Modprobe.{modprobe_request, modprobe_of};
 ghost use Rattle.kmod_words.specs.Modprobe.{mode_asked, mode_by_flags, options_go, if_passed};
 ghost use Rattle.kmod_words.specs.Modprobe.{chosen, choice_parts, region_asked};
 
-use crate::arguments::{Argument, command};
-use crate::matches::{
-    bytes_of, bytes_or, is_given, is_version, texts_of, understood, value_of, words_of,
-};
+use crate::arguments::Argument;
+use crate::matches::{bytes_of, bytes_or, is_given, is_version, value_of, words_of};
 use crate::modprobe::{Mode, ModprobeWords};
 use crate::region::region_or_usual;
+use crate::request::{Request, read_request};
 use clap::ArgMatches;
 use km_names::{Name, Names, PathText, Word};
 use module_region::Region;
@@ -62,24 +61,26 @@ impl ModprobeWords {
 
 /// Reads what the words after `modprobe` ask for. It is `None` exactly if they aren't understood.
 /// modprobe(8).
+#[tactic(auto, unfolding(crate::specs::Modprobe::modprobe_command))]
 pub fn read_modprobe(alloc: Global, words: &[Word]) -> Result<Option<ModprobeWords>, AllocError>
     ensures { IfOk result (λ asked. asked ≡ modprobe_request words.now) }
 {
-    let texts = texts_of(alloc, words)?;
-    let command = command(alloc, "modprobe", &ARGUMENTS)?;
-    match understood(command, texts.as_slice())? {
-        Some(matches) => asked(alloc, &matches),
-        None => Ok(None),
-    }
+    read_request(alloc, "modprobe", &ARGUMENTS, words)
 }
 
-/// Returns what the matches ask for.
-fn asked(alloc: Global, matches: &ArgMatches<'_>) -> Result<Option<ModprobeWords>, AllocError>
-    ensures { IfOk result (λ asked. asked ≡ modprobe_asked (rows_of (found_of matches.now))) }
-{
-    match choice_of(matches) {
-        Some(choice) => asked_by(alloc, matches, &choice),
-        None => Ok(None),
+impl Request for ModprobeWords {
+    ghost use Rattle.kmod_words.specs.Modprobe.{modprobe_asked};
+
+    ghost asked = { modprobe_asked };
+
+    fn from_matches(
+        alloc: Global,
+        matches: &ArgMatches<'_>,
+    ) -> Result<Option<ModprobeWords>, AllocError> {
+        match choice_of(matches) {
+            Some(choice) => asked_by(alloc, matches, &choice),
+            None => Ok(None),
+        }
     }
 }
 

@@ -1,10 +1,10 @@
 ghost use Rattle.std.specs.Prelude.{◌≡◌, IfOk, codes};
 ghost use Rattle.std.specs.Str.{bytes_eq};
-ghost use Rattle.clap.specs.Words.{found_of, rows_of};
-ghost use Rattle.kmod_words.specs.StaticNodes.{static_nodes_request, static_nodes_asked};
+ghost use Rattle.kmod_words.specs.StaticNodes.{static_nodes_request};
 
-use crate::arguments::{Argument, command};
-use crate::matches::{bytes_or, is_version, texts_of, understood, value_of};
+use crate::arguments::Argument;
+use crate::matches::{bytes_or, is_version, value_of};
+use crate::request::{Request, read_request};
 use clap::ArgMatches;
 use km_names::{Name, PathText, Word};
 use std::alloc::{AllocError, Global};
@@ -27,38 +27,40 @@ pub struct StaticNodesWords {
 /// Reads what the words after `static-nodes` ask for: `-d ROOT -S VERSION --format devname`. It is
 /// `None` exactly if they aren't understood, as no other format is. kmod(8), "static-nodes"; `-d`
 /// and `-S` are this project's own.
+#[tactic(auto, unfolding(crate::specs::StaticNodes::static_nodes_command))]
 pub fn read_static_nodes(
     alloc: Global,
     words: &[Word],
 ) -> Result<Option<StaticNodesWords>, AllocError>
     ensures { IfOk result (λ asked. asked ≡ static_nodes_request words.now) }
 {
-    let texts = texts_of(alloc, words)?;
-    let command = command(alloc, "static-nodes", &ARGUMENTS)?;
-    match understood(command, texts.as_slice())? {
-        Some(matches) => asked(alloc, &matches),
-        None => Ok(None),
-    }
+    read_request(alloc, "static-nodes", &ARGUMENTS, words)
 }
 
-/// Returns what the matches ask for.
-#[tactic(auto, unfolding(crate::specs::StaticNodes::static_nodes_asked))]
-fn asked(alloc: Global, matches: &ArgMatches<'_>) -> Result<Option<StaticNodesWords>, AllocError>
-    ensures { IfOk result (λ asked. asked ≡ static_nodes_asked (rows_of (found_of matches.now))) }
-{
-    let Some(version) = value_of(matches, "set-version") else {
-        return Ok(None);
-    };
-    let Some(format) = value_of(matches, "format") else {
-        return Ok(None);
-    };
-    if !is_version(version) || !is_devname(format) {
-        return Ok(None);
+impl Request for StaticNodesWords {
+    ghost use Rattle.kmod_words.specs.StaticNodes.{static_nodes_asked};
+
+    ghost asked = { static_nodes_asked };
+
+    #[tactic(auto, unfolding(crate::specs::StaticNodes::static_nodes_asked))]
+    fn from_matches(
+        alloc: Global,
+        matches: &ArgMatches<'_>,
+    ) -> Result<Option<StaticNodesWords>, AllocError> {
+        let Some(version) = value_of(matches, "set-version") else {
+            return Ok(None);
+        };
+        let Some(format) = value_of(matches, "format") else {
+            return Ok(None);
+        };
+        if !is_version(version) || !is_devname(format) {
+            return Ok(None);
+        }
+        Ok(Some(StaticNodesWords {
+            dirname: bytes_or(alloc, matches, "dirname", b"/")?,
+            version: Name::from_slice(alloc, version.as_bytes())?,
+        }))
     }
-    Ok(Some(StaticNodesWords {
-        dirname: bytes_or(alloc, matches, "dirname", b"/")?,
-        version: Name::from_slice(alloc, version.as_bytes())?,
-    }))
 }
 
 /// Returns whether a format is the one that is understood.

@@ -2,9 +2,10 @@ ghost use Rattle.std.specs.Prelude.{◌≡◌, ◌≤◌, IfOk, IfSome, Option};
 ghost use Rattle.clap.specs.Words.{found_of, rows_of};
 ghost use Rattle.kmod_words.specs.Trial.{trial_request, trial_asked, number_of};
 
-use crate::arguments::{Argument, command};
-use crate::matches::{texts_of, understood, value_of};
+use crate::arguments::Argument;
+use crate::matches::value_of;
 use crate::numbers::decimal;
+use crate::request::{Request, read_request};
 use clap::ArgMatches;
 use km_names::Word;
 use std::alloc::{AllocError, Global};
@@ -22,24 +23,32 @@ pub struct TrialWords {
 
 /// Reads what the words after `trial` ask for: `SEED COUNT`. It is `None` exactly if they aren't
 /// understood.
+#[tactic(auto, unfolding(crate::specs::Trial::trial_command))]
 pub fn read_trial(alloc: Global, words: &[Word]) -> Result<Option<TrialWords>, AllocError>
     ensures request { IfOk result (λ asked. asked ≡ trial_request words.now) }
     ensures range { IfOk result
         (λ asked. IfSome asked (λ words. (1 ≤ words.count) × (words.count ≤ 2000))) }
 {
-    let texts = texts_of(alloc, words)?;
-    let command = command(alloc, "trial", &ARGUMENTS)?;
-    match understood(command, texts.as_slice())? {
-        Some(matches) => Ok(asked(&matches)),
-        None => Ok(None),
+    read_request(alloc, "trial", &ARGUMENTS, words)
+}
+
+impl Request for TrialWords {
+    ghost use Rattle.kmod_words.specs.Trial.{trial_asked};
+
+    ghost asked = { trial_asked };
+
+    fn from_matches(
+        _alloc: Global,
+        matches: &ArgMatches<'_>,
+    ) -> Result<Option<TrialWords>, AllocError> {
+        Ok(asked(matches))
     }
 }
 
 /// Returns what the matches ask for.
 #[tactic(auto, unfolding(crate::specs::Trial::trial_asked))]
 fn asked(matches: &ArgMatches<'_>) -> Option<TrialWords>
-    ensures request { result ≡ trial_asked (rows_of (found_of matches.now)) }
-    ensures range { IfSome result (λ words. (1 ≤ words.count) × (words.count ≤ 2000)) }
+    ensures { result ≡ trial_asked (rows_of (found_of matches.now)) }
 {
     let seed = number_of(matches, "seed", 20)?;
     let count = number_of(matches, "count", 4)?;

@@ -2,7 +2,7 @@ use Rattle.std.proofs.Common.{◌≡◌, Some, sym, ap, ◌∙◌}
 use Rattle.clap.specs.Words.{found_of, rows_of}
 use Rattle.kmod_words.specs.Understood.{is_version}
 use Rattle.kmod_words.proofs.NodeRequests.{alias-asked}
-use Rattle.kmod_words.proofs.builtin_alias.asked.Goals as goal
+use Rattle.kmod_words.proofs.builtin_alias.BuiltinAliasWordsRequest.from_matches.Goals as goal
 
 pub returns : goal.returns
 returns c =

@@ -1,32 +1,31 @@
 use Rattle.std.proofs.Common.{List, Bor, map, option_map, ap, ◌∙◌}
 use Rattle.std.proofs.lemmas.Result.{IfOk-weaker}
-use Rattle.clap.specs.Words.{Text, app_of, found_of, rows_of}
+use Rattle.clap.specs.Words.{App, Text, found_of, rows_of}
 use Rattle.clap.specs.declared.parser.matches.ArgMatches.{ArgMatches}
-use Rattle.kmod_words.specs.Modprobe.{modprobe_asked, modprobe_command}
+use Rattle.kmod_words.specs.Arguments.{command}
+use Rattle.kmod_words.specs.Rules.{rule_for}
 use Rattle.kmod_words.proofs.RequestLemmas.{asked-some, asked-none}
-use Rattle.kmod_words.proofs.modprobe_request.read_modprobe.Goals as goal
+use Rattle.kmod_words.proofs.request.read_request.Goals as goal
 
 pub returns-in-Some : goal.returns-in-Some
-unfolding modprobe_command
-returns-in-Some c =
+returns-in-Some g c =
+    let app : App = command c.args.name.now (map rule_for c.args.arguments.now) in
     let given : List Text = map (λ (t : Bor Text). t.now) c.as_slice.result.now in
     let rows = option_map (λ (m : ArgMatches). rows_of (found_of m)) in
     let words
     = ap (map (λ (t : Bor Text). t.now)) c.as_slice.ensures.value ∙ c.in_ok-texts.ensures in
     let same
-    = asked-some modprobe_asked (app_of c.in_ok-command.command) modprobe_command given
-    c.args.words.now c.in_ok-command.ensures words
-    (rows c.in_ok-matches.field-0) (rows_of (found_of c.in-Some.matches)) c.in_ok-matches.ensures
-    (ap rows c.in-Some.is) in
-    IfOk-weaker c.asked.result _ _ (λ asked is. is ∙ same) c.asked.ensures
+    = asked-some g.A.Request.asked app given c.args.words.now words
+    (rows c.in_ok-matches.field-0) (rows_of (found_of c.in-Some.matches))
+    c.in_ok-matches.ensures (ap rows c.in-Some.is) in
+    IfOk-weaker c.from_matches.result _ _ (λ request is. is ∙ same) c.from_matches.ensures
 
 pub returns : goal.returns
-unfolding modprobe_command
-returns c =
+returns g c =
+    let app : App = command c.args.name.now (map rule_for c.args.arguments.now) in
     let given : List Text = map (λ (t : Bor Text). t.now) c.as_slice.result.now in
     let rows = option_map (λ (m : ArgMatches). rows_of (found_of m)) in
     let words
     = ap (map (λ (t : Bor Text). t.now)) c.as_slice.ensures.value ∙ c.in_ok-texts.ensures in
-    asked-none modprobe_asked (app_of c.in_ok-command.command) modprobe_command given
-    c.args.words.now c.in_ok-command.ensures words
+    asked-none g.A.Request.asked app given c.args.words.now words
     (rows c.in_ok-matches.field-0) c.in_ok-matches.ensures (ap rows c.in-None.is)

@@ -3,7 +3,7 @@ use Rattle.std.specs.Str.{bytes_eq}
 use Rattle.clap.specs.Words.{found_of, rows_of}
 use Rattle.kmod_words.specs.Understood.{is_version}
 use Rattle.kmod_words.proofs.NodeRequests.{nodes-asked, both-passed}
-use Rattle.kmod_words.proofs.static_nodes.asked.Goals as goal
+use Rattle.kmod_words.proofs.static_nodes.StaticNodesWordsRequest.from_matches.Goals as goal
 
 pub returns : goal.returns
 returns c =
