@@ -1,8 +1,9 @@
 // What names stand for, by files of a folder and a configuration.
-use crate::depmod::modinfo_names::{CUT_VALUE, FORWARD_CHILD, REACHED_TWICE};
-use crate::rows::{Failing, FileRow, Row, expect_over};
+use crate::modinfo_names::{CUT_VALUE, FORWARD_CHILD, REACHED_TWICE};
+use crate::runs::expect_over;
 use std::alloc::Global;
 use std::process::Abort;
+use test_rows::{Failing, FileRow, Row};
 
 /// A modules.dep.bin of `a`, and of `b`, which needs `a`.
 const DEP: FileRow<'static> = FileRow {

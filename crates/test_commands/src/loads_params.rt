@@ -1,11 +1,10 @@
 // Loads whose parameters are written.
-use crate::rows::{
-    Failing, FileRow, INDEX, IndexedRow, RowOf, SYMVERS, SYSTEM_MAP, USAGE, expect_indexed, image,
-};
+use crate::runs::expect_indexed;
 use km_names::{Blob, List, Name};
 use km_outside::CallKind;
 use std::alloc::Global;
 use std::process::Abort;
+use test_rows::{Failing, FileRow, INDEX, IndexedRow, RowOf, SYMVERS, SYSTEM_MAP, USAGE, image};
 use tree_gen::{SheetParam, SheetParams, param_object};
 
 /// Loads of a module of two parameters: the last word counts, words that name no parameter and
@@ -262,8 +261,8 @@ fn expect<'a>(
 
 /// Checks that both images are put, whole; and that the first stays if the second can't be put.
 fn expect_images(rt: &impl Abort, alloc: Global) {
-    let own = image(rt, alloc, 8192, &OWN);
-    let finished = image(rt, alloc, 8192, &FINISHED);
+    let own = image(alloc, 8192, &OWN).expect(rt, "an image");
+    let finished = image(alloc, 8192, &FINISHED).expect(rt, "an image");
     let own = FileRow {
         path: "/r/img/p.img",
         bytes: own.as_slice(),

@@ -1,8 +1,7 @@
 // Removals from the modelled machine.
-use crate::rows::{
-    FileRow, INDEXED, IndexedRow, ModuleRow, RowOf, SYMVERS, SYSTEM_MAP, expect_indexed,
-};
+use crate::runs::expect_indexed;
 use test_objects::{GIVES, NEEDS, NO_MORE, NOTHING};
+use test_rows::{FileRow, INDEXED, IndexedRow, ModuleRow, RowOf, SYMVERS, SYSTEM_MAP};
 
 /// Three modules. `b` needs `a`, and `c` has nothing to do with them.
 const THREE: &[ModuleRow<'static>] = &[

@@ -1,9 +1,10 @@
 // Modules that are shown by their names.
-use crate::rows::{Failing, FileRow, Row, RowOf, expect_over};
+use crate::runs::expect_over;
 use km_outside::CallKind;
 use std::alloc::Global;
 use std::process::Abort;
 use test_objects::LICENSE_OBJECT;
+use test_rows::{Failing, FileRow, Row, RowOf};
 
 /// A modules.dep.bin: `a` with the line `kernel/a.ko:`, and `b` with `kernel/b.ko: kernel/a.ko`.
 const TWO_NAMES: &[u8] = b"\xb0\x07\xf4\x57\x00\x02\x00\x01\x20\x00\x00\x42\

@@ -1,11 +1,10 @@
 // Each call of a load fails in turn: what was printed and put before stays, and nothing else is
 // done.
-use crate::rows::{
-    Failing, FileRow, INDEX, IndexedRow, SYMVERS, SYSTEM_MAP, TWO, expect_indexed, image,
-};
+use crate::runs::expect_indexed;
 use km_outside::CallKind;
 use std::alloc::Global;
 use std::process::Abort;
+use test_rows::{Failing, FileRow, INDEX, IndexedRow, SYMVERS, SYSTEM_MAP, TWO, image};
 
 /// A load of `b` whose images are put.
 const LOAD: &str = "modprobe -d /r -S 6.1.0 --system-map /r/System.map --symvers /r/Module.symvers \
@@ -159,8 +158,8 @@ fn expect_load(
     (out, err): (&str, &str),
     images: usize,
 ) {
-    let a = image(rt, alloc, 8192, &A_WORDS);
-    let b = image(rt, alloc, 4096, &B_WORDS);
+    let a = image(alloc, 8192, &A_WORDS).expect(rt, "an image");
+    let b = image(alloc, 4096, &B_WORDS).expect(rt, "an image");
     let after = [
         FileRow {
             path: "/r/img/a.img",

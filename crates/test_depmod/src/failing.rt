@@ -1,11 +1,11 @@
 // Each call of a depmod of two modules fails in turn: what was done before stays, and nothing else
 // is done.
-use crate::depmod::expect::{DONE, IndexRow, expect_index, expect_rows};
-use crate::depmod::indexes::Index;
-use crate::rows::{Failing, FileRow, TWO};
+use crate::expect::{DONE, IndexRow, expect_index, expect_rows};
+use crate::indexes::Index;
 use km_outside::CallKind;
 use std::alloc::Global;
 use std::process::Abort;
+use test_rows::{Failing, FileRow, TWO};
 
 /// A call on files that fails: its kind and its number, the line on err, and how many files were
 /// replaced before.

@@ -1,12 +1,10 @@
 // Modules that are shown by their paths.
-use crate::rows::{
-    Failing, FileRow, Objects, Row, RowOf, USAGE, expect_last, expect_over, path_of, put_at,
-    put_object, same_seen,
-};
+use crate::runs::{expect_last, expect_over, run_words, same_seen};
 use km_outside::CallKind;
 use std::alloc::Global;
 use std::process::Abort;
 use test_objects::{LICENSE_OBJECT, NO_MORE, SheetRow};
+use test_rows::{Failing, FileRow, Objects, Row, RowOf, USAGE, path_in};
 
 /// A module with two parameters, one of them without a text.
 static PARAMETERS: SheetRow = SheetRow {
@@ -156,23 +154,23 @@ const A: FileRow<'static> = FileRow {
 
 /// Puts the modules at paths.
 fn put_modules(rt: &impl Abort, alloc: Global, objects: &mut Objects) {
-    objects.put_file(rt, alloc, A);
-    let cut = path_of(rt, alloc, b"/m/cut.ko");
-    objects.put(rt, &cut, &LICENSE_OBJECT[..287]);
-    put_object(rt, alloc, objects, (b"/m", "p.ko"), (&PARAMETERS, &NO_MORE));
-    put_object(
-        rt,
-        alloc,
-        objects,
-        (b"/m", "lone.ko"),
-        (&LONE_KEY, &NO_MORE),
-    );
+    let cut = FileRow {
+        path: "/m/cut.ko",
+        bytes: &LICENSE_OBJECT[..287],
+    };
+    objects.put_files(alloc, &[A, cut]).expect(rt, "files");
+    let sheet = (&PARAMETERS, &NO_MORE);
+    let put = objects.put_object(alloc, (b"/m", "p.ko"), sheet);
+    put.expect(rt, "a module");
+    let sheet = (&LONE_KEY, &NO_MORE);
+    let put = objects.put_object(alloc, (b"/m", "lone.ko"), sheet);
+    put.expect(rt, "a module");
 }
 
 /// Runs a row over the modules. No file is changed.
 fn expect_shown(rt: &impl Abort, alloc: Global, row: Row) {
     let (words, ..) = row;
-    let mut objects = Objects::new(rt, alloc);
+    let mut objects = Objects::new(alloc).expect(rt, "objects");
     put_modules(rt, alloc, &mut objects);
     expect_last(rt, alloc, objects, row, words);
 }
@@ -225,8 +223,9 @@ static FAILING: [(Failing, Row); 5] = [
 /// Puts a file of so many zeros.
 fn put_zeros(rt: &impl Abort, alloc: Global, objects: &mut Objects, length: usize) {
     let bytes = vec![in alloc; 0u8; length].expect(rt, "zeros");
-    let path = path_of(rt, alloc, b"/m/a.ko");
-    put_at(rt, &mut objects.files, &path, bytes.as_slice());
+    let path = path_in(alloc, b"/m", b"a.ko").expect(rt, "a path");
+    let put = objects.files.put(&path, bytes.as_slice());
+    put.expect(rt, "a file more");
 }
 
 /// What is said of a file past the limit.
@@ -254,9 +253,9 @@ fn modules_are_shown_by_their_paths(rt: HostRuntime) {
 /// Runs words over a file past the limit.
 fn expect_too_large(rt: &impl Abort, alloc: Global) {
     let (words, ..) = TOO_LARGE;
-    let mut objects = Objects::new(rt, alloc);
+    let mut objects = Objects::new(alloc).expect(rt, "objects");
     put_zeros(rt, alloc, &mut objects, 67_108_865);
-    objects.run(rt, alloc, words);
+    run_words(rt, alloc, &mut objects, words);
     same_seen(rt, &objects, TOO_LARGE, words);
     drop(objects);
 }

@@ -1,14 +1,14 @@
 // Trees that are indexed with `--extra`.
-use crate::depmod::expect::{put_old, want_in};
-use crate::depmod::extra_trees::{NO_KEYS, NO_NODES, ONE_NODE, TTY, TTY_INDEX, TWO_NODES};
-use crate::rows::{
-    EXTRA, FOLDER, Failing, FileRow, INDEX, ModuleRow, Objects, SYMVERS, expect_last, objects_with,
-    path_in, put_at,
-};
+use crate::expect::{put_old, want_in};
+use crate::extra_trees::{NO_KEYS, NO_NODES, ONE_NODE, TTY, TTY_INDEX, TWO_NODES};
+use crate::runs::{expect_last, run_words};
 use km_outside::CallKind;
 use std::alloc::Global;
 use std::process::Abort;
 use test_objects::{NEEDS_NOSUCH, NO_MORE};
+use test_rows::{
+    EXTRA, FOLDER, Failing, FileRow, INDEX, ModuleRow, Objects, SYMVERS, objects_with, path_in,
+};
 
 /// The names of the files of depmod, in the order in which they are replaced.
 static NAMES: [&[u8]; 11] = [
@@ -171,20 +171,20 @@ static ROWS: [ExtraRow<'static>; 10] = [
 
 /// Returns the objects of a row.
 fn objects_of(rt: &impl Abort, alloc: Global, row: &ExtraRow<'_>, failing: Failing) -> Objects {
-    objects_with(rt, alloc, row.modules, row.files, failing)
+    objects_with(alloc, row.modules, row.files, failing).expect(rt, "objects")
 }
 
 /// Wants a file as it was left by another command.
 fn want_same(rt: &impl Abort, alloc: Global, objects: &mut Objects, other: &Objects, name: &[u8]) {
-    let path = path_in(rt, alloc, FOLDER, name);
+    let path = path_in(alloc, FOLDER, name).expect(rt, "a path");
     let bytes = other.files.get(&path).unwrap_or(b"no file");
-    put_at(rt, &mut objects.wanted, &path, bytes);
+    objects.wanted.put(&path, bytes).expect(rt, "a file more");
 }
 
 /// Wants the first files as a depmod without the option leaves them.
 fn want_plain(rt: &impl Abort, alloc: Global, objects: &mut Objects, row: &ExtraRow<'_>) {
     let mut plain = objects_of(rt, alloc, row, Failing::Nothing);
-    plain.run(rt, alloc, INDEX);
+    run_words(rt, alloc, &mut plain, INDEX);
     for name in NAMES.iter().take(row.replaced.min(9)) {
         want_same(rt, alloc, objects, &plain, name);
     }

@@ -1,16 +1,16 @@
 // Trees that are indexed, and those that are refused.
-use crate::depmod::expect::{DONE, IndexRow, REFUSED, expect_index, expect_rows};
-use crate::depmod::indexes::Index;
-use crate::depmod::sheets::{
+use crate::expect::{DONE, IndexRow, REFUSED, expect_index, expect_rows};
+use crate::indexes::Index;
+use crate::sheets::{
     ALIASES, CIRCLE_A, CIRCLE_B, CIRCLE_C, CIRCLE_P, GIVES_LONG, LONG_VERSION_17, LONG_VERSION_18,
     NEEDS_LONG,
 };
-use crate::rows::{FILE_SYSTEM, FILE_SYSTEM_KERNEL, Failing, FileRow, SYMVERS, TWO, USAGE};
 use km_outside::CallKind;
 use test_objects::{
     FREE, GIVES, GIVES_ALONE, GIVES_VERSION_1, GPL_ONLY, IMPORTS, IN_SPACE, MAY_NEED,
     MAY_NEED_VERSION_2, NEEDS, NEEDS_NOSUCH, NO_MORE, NOTHING,
 };
+use test_rows::{FILE_SYSTEM, FILE_SYSTEM_KERNEL, Failing, FileRow, SYMVERS, TWO, USAGE};
 
 /// Trees that are indexed.
 static PLAIN: [IndexRow<'static>; 10] = [

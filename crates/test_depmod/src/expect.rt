@@ -1,11 +1,11 @@
 // What a depmod results in: what it answers and writes, and every file.
-use crate::depmod::indexes::{Index, files_of};
-use crate::rows::{
-    FOLDER, Failing, FileRow, INDEX, ModuleRow, Objects, RowOf, SYMVERS, expect_last, expect_next,
-    objects_with, path_in, put_at,
-};
+use crate::indexes::{Index, files_of};
+use crate::runs::{expect_last, expect_next};
 use std::alloc::Global;
 use std::process::Abort;
+use test_rows::{
+    FOLDER, Failing, FileRow, INDEX, ModuleRow, Objects, RowOf, SYMVERS, objects_with, path_in,
+};
 
 /// The names of the files of an index, in the order in which they are replaced.
 static NAMES: [&[u8]; 9] = [
@@ -75,14 +75,15 @@ pub(crate) const REFUSED: IndexRow<'static> = IndexRow {
 /// Puts an old index of the files with these names.
 pub(crate) fn put_old(rt: &impl Abort, alloc: Global, objects: &mut Objects, names: &[&[u8]]) {
     for name in names {
-        let path = path_in(rt, alloc, FOLDER, name);
-        objects.put(rt, &path, b"old");
+        let path = path_in(alloc, FOLDER, name).expect(rt, "a path");
+        objects.put(&path, b"old").expect(rt, "a file more");
     }
 }
 
 /// Returns the objects of a row.
 pub(crate) fn objects_of(rt: &impl Abort, alloc: Global, row: &IndexRow<'_>) -> Objects {
-    let mut objects = objects_with(rt, alloc, row.modules, row.files, row.failing);
+    let objects = objects_with(alloc, row.modules, row.files, row.failing);
+    let mut objects = objects.expect(rt, "objects");
     if row.is_old {
         put_old(rt, alloc, &mut objects, &NAMES);
     }
@@ -97,8 +98,8 @@ pub(crate) fn want_in(
     (folder, name): (&[u8], &[u8]),
     bytes: &[u8],
 ) {
-    let path = path_in(rt, alloc, folder, name);
-    put_at(rt, &mut objects.wanted, &path, bytes);
+    let path = path_in(alloc, folder, name).expect(rt, "a path");
+    objects.wanted.put(&path, bytes).expect(rt, "a file more");
 }
 
 /// Wants the files of the index of two modules. All other files are to stay.

@@ -1,12 +1,12 @@
 // Trees that are changed: indexed again, and with a module that is damaged.
-use crate::depmod::expect::{DONE, IndexRow, REFUSED, expect_again, objects_of};
-use crate::depmod::indexes::Index;
-use crate::depmod::sheets::{GIVES_FC, GIVES_LONG, LONG_VERSION_17, NEEDS_LONG};
-use crate::rows::{Failing, ModuleRow, TWO, path_of, put_modules};
+use crate::expect::{DONE, IndexRow, REFUSED, expect_again, objects_of};
+use crate::indexes::Index;
+use crate::sheets::{GIVES_FC, GIVES_LONG, LONG_VERSION_17, NEEDS_LONG};
 use km_outside::CallKind;
 use std::alloc::Global;
 use std::process::Abort;
 use test_objects::{NO_MORE, object_with};
+use test_rows::{FOLDER, Failing, ModuleRow, TWO, path_in};
 
 /// Two modules that are indexed for the first time. The third replacement after that fails.
 static FIRST: IndexRow<'static> = IndexRow {
@@ -35,7 +35,7 @@ static C: [ModuleRow<'static>; 1] = [("kernel/c.ko", &GIVES_FC, &NO_MORE)];
 fn expect_second(rt: &impl Abort, alloc: Global) {
     let mut objects = objects_of(rt, alloc, &FIRST);
     expect_again(rt, alloc, &mut objects, &FIRST);
-    put_modules(rt, alloc, &mut objects, &C);
+    objects.put_modules(alloc, &C).expect(rt, "a module");
     expect_again(rt, alloc, &mut objects, &SECOND);
     drop(objects);
 }
@@ -86,8 +86,8 @@ fn cut_last_name(rt: &impl Abort, bytes: &mut Vec<u8>) {
 fn expect_bad_versions(rt: &impl Abort, alloc: Global) {
     let mut objects = objects_of(rt, alloc, &CUT);
     let bytes = cut_object(rt, alloc);
-    let path = path_of(rt, alloc, b"/r/lib/modules/6.1.0/kernel/b.ko");
-    objects.put(rt, &path, bytes.as_slice());
+    let path = path_in(alloc, FOLDER, b"kernel/b.ko").expect(rt, "a path");
+    objects.put(&path, bytes.as_slice()).expect(rt, "a file");
     expect_again(rt, alloc, &mut objects, &CUT);
     drop(objects);
 }

@@ -1,9 +1,10 @@
 // Whole runs of trials. A separate program worked out the digests of images from the made trees. An
 // image has 8192 bytes, which are 0 except for the address of `printk` at byte 4096 and, after the
 // first, the address of `s0000` at byte 4104.
-use crate::rows::{Failing, Row, USAGE, expect_over};
+use crate::runs::expect_over;
 use std::alloc::Global;
 use std::process::Abort;
+use test_rows::{Failing, Row, USAGE};
 
 /// Trees of one, two and three modules.
 static TRIALS: [Row; 3] = [

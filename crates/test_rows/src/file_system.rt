@@ -1,5 +1,5 @@
 // A file system with two helpers.
-use crate::rows::row::{FileRow, ModuleRow};
+use crate::row::{FileRow, ModuleRow};
 use test_objects::{EMPTY_SHEET, ExportRow, NO_MORE, NeedRow, PlaceRow, SheetRow};
 
 /// The modules of a file system.

@@ -1,12 +1,11 @@
 // Plans, and what is in the way of one.
-use crate::modprobe::sheets::ASKS_FOR_MORE;
-use crate::rows::{
-    FileRow, INDEXED, IndexedRow, ModuleRow, SYMVERS, SYSTEM_MAP, TWO, expect_trees,
-};
+use crate::runs::expect_trees;
+use crate::sheets::ASKS_FOR_MORE;
 use test_objects::{
     FREE, GIVES_ALONE, GIVES_VERSION_1, GPL_ONLY, IMPORTS, IN_SPACE, MAY_NEED_VERSION_2, NEEDS,
     NEEDS_NOSUCH, NO_MORE, NOTHING,
 };
+use test_rows::{FileRow, INDEXED, IndexedRow, ModuleRow, SYMVERS, SYSTEM_MAP, TWO};
 
 /// Two modules that need nothing.
 const ALONE: &[ModuleRow<'static>] = &[

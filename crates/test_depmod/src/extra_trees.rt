@@ -1,6 +1,6 @@
 // Trees with device nodes, and the two files that depmod adds for them.
-use crate::rows::{FileRow, ModuleRow};
 use test_objects::{EMPTY_SHEET, NO_MORE, SheetRow};
+use test_rows::{FileRow, ModuleRow};
 
 /// A module with a device node.
 const FUSE: SheetRow = SheetRow {

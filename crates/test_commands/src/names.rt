@@ -1,7 +1,8 @@
 // What names stand for in trees that depmod indexed.
-use crate::modprobe::sheets::{ALIASES, USB};
-use crate::rows::{FileRow, INDEXED, IndexedRow, SYMVERS, TWO, expect_trees};
+use crate::runs::expect_trees;
+use crate::sheets::{ALIASES, USB};
 use test_objects::NO_MORE;
+use test_rows::{FileRow, INDEXED, IndexedRow, SYMVERS, TWO};
 
 /// Trees, and what names stand for in each.
 static TREES: [IndexedRow<'static>; 3] = [

@@ -1,11 +1,12 @@
 // Loads into the modelled machine.
-use crate::rows::{
-    FILE_SYSTEM, FILE_SYSTEM_KERNEL, Failing, FileRow, INDEX, INDEXED, IndexedRow, RowOf, SYMVERS,
-    SYSTEM_MAP, TWO, USAGE, expect_indexed, expect_trees, image,
-};
+use crate::runs::{expect_indexed, expect_trees};
 use std::alloc::Global;
 use std::process::Abort;
 use test_objects::{GIVES_ALONE, GPL_ONLY, MAY_NEED, NO_MORE};
+use test_rows::{
+    FILE_SYSTEM, FILE_SYSTEM_KERNEL, Failing, FileRow, INDEX, INDEXED, IndexedRow, RowOf, SYMVERS,
+    SYSTEM_MAP, TWO, USAGE, image,
+};
 
 /// Trees, and what is loaded of each. No image is put.
 static TREES: [IndexedRow<'static>; 6] = [
@@ -184,8 +185,8 @@ const EXT4_WORDS: &[u8] =
 /// Loads a file system with two helpers, over a kernel of 40 names, and compares both images byte
 /// for byte.
 fn expect_file_system(rt: &impl Abort, alloc: Global) {
-    let jbd2 = image(rt, alloc, 8192, &[(4096, JBD2_WORD)]);
-    let ext4 = image(rt, alloc, 4096, &[(0, EXT4_WORDS)]);
+    let jbd2 = image(alloc, 8192, &[(4096, JBD2_WORD)]).expect(rt, "an image");
+    let ext4 = image(alloc, 4096, &[(0, EXT4_WORDS)]).expect(rt, "an image");
     let tree = IndexedRow {
         name: "a file system is loaded",
         modules: FILE_SYSTEM,

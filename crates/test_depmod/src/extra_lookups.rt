@@ -1,10 +1,9 @@
 // What the two commands answer over the files that a depmod left, and over bad ones.
-use crate::depmod::extra_trees::{ONE_NODE, TTY, TWO_BUILT_IN, TWO_NODES};
-use crate::rows::{
-    EXTRA, Failing, FileRow, INDEXED, IndexedRow, RowOf, SYMVERS, USAGE, expect_over, expect_trees,
-};
+use crate::extra_trees::{ONE_NODE, TTY, TWO_BUILT_IN, TWO_NODES};
+use crate::runs::{expect_over, expect_trees};
 use std::alloc::Global;
 use std::process::Abort;
+use test_rows::{EXTRA, Failing, FileRow, INDEXED, IndexedRow, RowOf, SYMVERS, USAGE};
 
 /// Lookups over a module with a device node, and a built-in one with an alias.
 const ONE: &[RowOf<'static>] = &[
