@@ -1,15 +1,30 @@
-//! Tests of whole commands, over files and outputs in memory. A row has the words that go in, and
-//! the status, the output, the lines on err and every file that come out.
+//! Tests of whole runs of the commands over trees that `depmod` indexed. They are those of `modprobe`,
+//! with what names resolve to, plans, loads into the modelled machine, parameters and removals, those
+//! of `modinfo` by paths, and those of `trial`. Each runs over files and outputs in memory.
 //!
-//! They are one crate, since each crate of tests that uses `kmod_cli` builds the whole program. It
-//! builds on `test_objects` for modules, and on `tree_gen` for objects with parameters.
+//! It builds on `kmod_cli` for the commands, on `test_rows` for rows of whole commands, on
+//! `test_objects` for modules, and on `tree_gen` for objects with parameters.
 #![tactic(auto)]
 
 #[cfg(test)]
 mod calls;
 #[cfg(test)]
-mod depmod;
+mod failing;
 #[cfg(test)]
-mod modprobe;
+mod loads;
 #[cfg(test)]
-mod rows;
+mod loads_params;
+#[cfg(test)]
+mod modinfo;
+#[cfg(test)]
+mod names;
+#[cfg(test)]
+mod plans;
+#[cfg(test)]
+mod removals;
+#[cfg(test)]
+mod runs;
+#[cfg(test)]
+mod sheets;
+#[cfg(test)]
+mod trials;

@@ -1,14 +1,9 @@
-//! Tests of indexes: patterns, the nodes of a file, lookups in it, the file of a map, and what a
-//! name stands for.
+//! Tests of indexes: patterns, the nodes of a file, and the file of a map.
 //!
 //! It builds on the crates of these, and on `test_objects` for bytes in hexadecimal digits, and for
 //! keys and texts.
 #![tactic(auto)]
 
-#[cfg(test)]
-mod found;
-#[cfg(test)]
-mod lookups;
 #[cfg(test)]
 mod nodes;
 #[cfg(test)]

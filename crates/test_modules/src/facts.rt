@@ -140,6 +140,7 @@ fn expect_place(rt: &impl Abort, alloc: Global) {
     assert_eq!(rt; module.object.place_count(), 1);
     let place = module.object.place(0);
     assert!(rt; place.target == 2 && place.offset == 0 && place.kind == 1);
+    drop(module);
 }
 
 /// A name that is too long for an entry of `__versions`.
@@ -349,7 +350,9 @@ fn is_free(rt: &impl Abort, alloc: Global, texts: &'static [&'static [u8]]) -> b
         ..EMPTY_SHEET
     };
     let module = module_of(rt, alloc, b"kernel/b.ko", &sheet, &NO_MORE);
-    module.facts.free
+    let free = module.facts.free;
+    drop(module);
+    free
 }
 
 /// A module that imports two namespaces.

@@ -122,10 +122,16 @@ fn expect_read(rt: &impl Abort, facts: &Facts, row: &FactsRow) {
     expect_texts(rt, &facts.imports, row.imports);
 }
 
+/// Reads the module of a row, and compares its facts.
+fn expect_row(rt: &impl Abort, alloc: Global, row: &FactsRow) {
+    let module = module_of(rt, alloc, row.path, &row.sheet, &row.more);
+    expect_read(rt, &module.facts, row);
+    drop(module);
+}
+
 /// Reads the module of each row, and compares its facts.
 pub(crate) fn expect_facts(rt: &impl Abort, alloc: Global, rows: &[FactsRow]) {
     for row in rows {
-        let module = module_of(rt, alloc, row.path, &row.sheet, &row.more);
-        expect_read(rt, &module.facts, row);
+        expect_row(rt, alloc, row);
     }
 }

@@ -12,10 +12,8 @@ use test_objects::{MoreRow, NEEDS, NeedRow, PlaceRow, SheetRow, object_of, objec
 
 /// Returns why there is no module of these bytes at the path.
 fn fault_at(rt: &impl Abort, alloc: Global, path: &[u8], bytes: Blob) -> ModuleFault {
-    match module_at(rt, alloc, path, bytes) {
-        Ok(_) => panic!(rt; "the module was read"),
-        Err(fault) => fault,
-    }
+    let refused = module_at(rt, alloc, path, bytes).err();
+    refused.expect(rt, "a refusal")
 }
 
 /// Checks the text of a fault.

@@ -1,25 +1,14 @@
-//! Tests of words and of the files that are lines: names, lists and tables of names, and the rules
-//! of modprobe.d. There are also the tree of a listing, loaded modules, modules.unmet, and who may
-//! use an export.
+//! Tests of words: names and paths, their normal forms, the lines and words of texts, lists, and
+//! tables of names.
 //!
-//! It builds on the crates of these, and on `test_objects` for files of a configuration.
+//! It builds on `km_names` and `name_table`.
 #![tactic(auto)]
 
 #[cfg(test)]
-mod binding;
-#[cfg(test)]
 mod lists;
 #[cfg(test)]
-mod loaded;
-#[cfg(test)]
 mod names;
-#[cfg(test)]
-mod rules;
 #[cfg(test)]
 mod same;
 #[cfg(test)]
 mod tables;
-#[cfg(test)]
-mod trees;
-#[cfg(test)]
-mod unmet;

@@ -19,7 +19,7 @@ fn read<F: Files>(files: &mut F, alloc: Global, path: &[u8]) -> Result<Blob, Fil
 }
 
 /// Writes through the bound, as the crates above do.
-pub(crate) fn write<O: Out>(out: &mut O, bytes: &[u8]) -> Result<(), OutFailed> {
+fn write<O: Out>(out: &mut O, bytes: &[u8]) -> Result<(), OutFailed> {
     out.write(bytes)
 }
 

@@ -84,10 +84,8 @@ fn fault_of_module(
     length: usize,
     want: &str,
 ) -> ModuleFault {
-    match module_of(rt, alloc, path, length) {
-        Ok(_) => panic!(rt; "read, and not {want}"),
-        Err(fault) => fault,
-    }
+    let refused = module_of(rt, alloc, path, length).err();
+    refused.expect(rt, want)
 }
 
 /// Returns why no facts are read.
@@ -98,10 +96,8 @@ fn fault_of_facts(
     length: usize,
     want: &str,
 ) -> ModuleFault {
-    match facts_of(rt, alloc, path, length) {
-        Ok(_) => panic!(rt; "read, and not {want}"),
-        Err(fault) => fault,
-    }
+    let refused = facts_of(rt, alloc, path, length).err();
+    refused.expect(rt, want)
 }
 
 #[test]

@@ -1,2 +1,1 @@
-mod LetterSteps
 mod TreeSteps

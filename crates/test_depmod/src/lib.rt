@@ -1,0 +1,34 @@
+//! Tests of whole runs of `depmod`, and of the commands that look names up in the files of an index:
+//! `builtin-alias`, `static-nodes`, `modprobe -R` and `modinfo -k`. Each runs over files and outputs
+//! in memory.
+//!
+//! It builds on `kmod_cli` for the commands, on `test_rows` for rows of whole commands, and on
+//! `test_objects` for modules.
+#![tactic(auto)]
+
+#[cfg(test)]
+mod again;
+#[cfg(test)]
+mod calls;
+#[cfg(test)]
+mod expect;
+#[cfg(test)]
+mod extra;
+#[cfg(test)]
+mod extra_lookups;
+#[cfg(test)]
+mod extra_trees;
+#[cfg(test)]
+mod failing;
+#[cfg(test)]
+mod indexes;
+#[cfg(test)]
+mod indexing;
+#[cfg(test)]
+mod modinfo_names;
+#[cfg(test)]
+mod modprobe_names;
+#[cfg(test)]
+mod runs;
+#[cfg(test)]
+mod sheets;

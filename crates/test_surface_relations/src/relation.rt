@@ -1,0 +1,434 @@
+//! The tree of a folder, the kernel's table, the relation of a tree and depmod's files.
+ghost use Rattle.std.specs.Prelude.{◌≡◌, ◌≤◌, ◌==◌, [], ◌∷◌, not, length, All, AllPairs};
+ghost use Rattle.std.specs.Prelude.{IfOk, IsTrue};
+ghost use Rattle.std.specs.List.{list_any};
+ghost use Rattle.km_names.specs.Ascii.{is_graphic};
+ghost use Rattle.km_names.specs.Limit.{file_limit};
+ghost use Rattle.provider_rel.specs.Seen.{closures_by};
+ghost use Rattle.provider_rel.specs.Tree.{IsTree, IsTreeModule};
+ghost use Rattle.depmod_core.specs.Files.{IsRelationOf};
+
+use crate::lists::{names, paths};
+use crate::same::{holds, same, shown};
+use depmod_core::{OutputFault, OutputFiles, outputs};
+use km_names::{
+    ConfFault, ConfFile, ConfFiles, List, Name, Names, PathText, Texts, TreeIndex, is_graphic,
+};
+use mod_tree::{Search, Tree, TreeFault, choose, parse_search};
+use module_facts::{Export, Exports, Facts, Need, Needs};
+use provider_rel::{Kernel, KernelExports, KernelFault, Relation, RelationFault, TreeFacts, agree};
+use std::alloc::Global;
+use std::process::Abort;
+use test_objects::conf_file;
+
+/// Returns a file of configuration.
+fn configuration(rt: &impl Abort, alloc: Global, text: &[u8]) -> ConfFile
+    ensures { length result.bytes ≤ file_limit }
+{
+    conf_file(alloc, b"/e/a.conf", text).expect(rt, "a file")
+}
+
+/// Makes a configuration of one file.
+pub(crate) fn one_file(rt: &impl Abort, alloc: Global, text: &[u8]) -> ConfFiles
+    ensures { All (λ file. length file.bytes ≤ file_limit) result }
+{
+    only(rt, alloc, configuration(rt, alloc, text))
+}
+
+/// Reads the search list of a configuration of one file.
+fn search_of(rt: &impl Abort, alloc: Global, text: &[u8]) -> Result<Search, ConfFault> {
+    let files = one_file(rt, alloc, text);
+    parse_search(alloc, &files)
+}
+
+/// Configurations, and their search lists.
+static SEARCHES: [(&[u8], &str); 3] = [
+    (b"", r#"Ok(List { elements: ["updates", "built-in"] })"#),
+    (
+        b"search extra\n# c\nsearch built-in a-b",
+        r#"Ok(List { elements: ["extra", "built-in", "a-b"] })"#,
+    ),
+    (
+        b"\noverride a * b",
+        r#"Err(BadLine { file: "/e/a.conf", line: 2 })"#,
+    ),
+];
+
+fn search_lines_are_read(rt: &impl Abort, alloc: Global) {
+    for (text, want) in &SEARCHES {
+        shown(rt, alloc, search_of(rt, alloc, text), want);
+    }
+}
+
+/// Chooses modules of a listing by a search list of these words.
+fn chosen(
+    rt: &impl Abort,
+    alloc: Global,
+    listed: &[&[u8]],
+    order: &[u8],
+    words: &[&[u8]],
+) -> Result<Tree, TreeFault> {
+    let search: Search = names(rt, alloc, words);
+    choose(alloc, &paths(rt, alloc, listed), order, &search)
+}
+
+/// Paths of a folder, with one module in two places.
+static LISTED: [&[u8]; 3] = [b"updates/a.ko", b"kernel/b.ko", b"kernel/a.ko"];
+
+/// First words of a search list, modules.order, and the tree.
+static CHOICES: [(&[u8], &[u8], &str); 2] = [
+    (
+        b"updates",
+        b"",
+        r#"Some(List { elements: ["kernel/b.ko", "updates/a.ko"] })"#,
+    ),
+    (
+        b"kernel",
+        b"kernel/b.ko\nkernel/a.ko\n",
+        r#"Some(List { elements: ["kernel/b.ko", "kernel/a.ko"] })"#,
+    ),
+];
+
+fn a_search_list_of_ones_own_chooses(rt: &impl Abort, alloc: Global) {
+    for (first, order, want) in &CHOICES {
+        let tree = chosen(rt, alloc, &LISTED, order, &[first, b"built-in"]).ok();
+        shown(rt, alloc, tree, want);
+    }
+}
+
+/// Paths of which two aren't those of modules.
+static BAD_PATHS: [&[u8]; 3] = [b"z .ko", b"a:.ko", b"b b"];
+
+fn a_bad_path_is_reported(rt: &impl Abort, alloc: Global) {
+    let Err(TreeFault::BadPath { path }) = chosen(rt, alloc, &BAD_PATHS, b"", &[]) else {
+        panic!(rt; "not refused");
+    };
+    shown(rt, alloc, path, r#""a:.ko""#);
+}
+
+// Each table is read by a function that promises nothing.
+
+/// Reads the addresses of a System.map into a table.
+fn add(rt: &impl Abort, kernel: &mut Kernel, map: &[u8]) -> Result<(), KernelFault> {
+    holds(rt, map.len() <= 67_108_864);
+    kernel.add_addresses(map)
+}
+
+/// Reads the table of a System.map.
+fn mapped(rt: &impl Abort, alloc: Global, map: &[u8]) -> Result<Kernel, KernelFault> {
+    holds(rt, map.len() <= 67_108_864);
+    Kernel::from_map(alloc, map)
+}
+
+/// Reads the table of a Module.symvers.
+fn kernel_of(rt: &impl Abort, alloc: Global, symvers: &[u8]) -> Kernel {
+    holds(rt, symvers.len() <= 67_108_864);
+    Kernel::from_symvers(alloc, symvers).expect(rt, "a kernel")
+}
+
+fn a_kernel_of_ones_own_is_made(rt: &impl Abort, alloc: Global) {
+    let kernel = Kernel {
+        known: true,
+        exports: KernelExports::new(alloc),
+    };
+    let parts = (
+        kernel.known,
+        kernel.exports.len(),
+        Kernel::unknown(alloc).known,
+    );
+    shown(rt, alloc, parts, "(true, 0, false)");
+}
+
+/// The table of a kernel that exports `printk`.
+static SYMVERS: &[u8] = b"0x11111111\tprintk\tvmlinux\tEXPORT_SYMBOL\n";
+
+/// Its addresses.
+static SYSTEM_MAP: &[u8] = b"ffffffff81000000 T printk\n";
+
+/// Reads the table of that kernel, without the addresses.
+fn usual_kernel(rt: &impl Abort, alloc: Global) -> Kernel {
+    kernel_of(rt, alloc, SYMVERS)
+}
+
+/// What that kernel exports. All modules may use it.
+static EXPORTS: &str =
+    r#"List { elements: [KernelExport { name: "printk", crc: Some(286331153), address: None, gpl: false, space: "" }] }"#;
+
+/// The same with the address.
+static PLACED: &str =
+    r#"List { elements: [KernelExport { name: "printk", crc: Some(286331153), address: Some(18446744071578845184), gpl: false, space: "" }] }"#;
+
+fn kernels_are_read(rt: &impl Abort, alloc: Global) {
+    let mut kernel = usual_kernel(rt, alloc);
+    shown(rt, alloc, &kernel.exports, EXPORTS);
+    shown(rt, alloc, add(rt, &mut kernel, SYSTEM_MAP), "Ok(())");
+    shown(rt, alloc, &kernel.exports, PLACED);
+}
+
+/// A System.map that shows an export.
+static KSYMTAB: &[u8] = b"ffffffff81000000 T printk\nffffffff82000000 r __ksymtab_printk\n";
+
+/// Whether it is known what its kernel exports, and that.
+static MAPPED: &str =
+    r#"(true, List { elements: [KernelExport { name: "printk", crc: None, address: Some(18446744071578845184), gpl: false, space: "" }] })"#;
+
+fn kernels_are_read_from_maps(rt: &impl Abort, alloc: Global) {
+    let kernel = mapped(rt, alloc, KSYMTAB).expect(rt, "a kernel");
+    shown(rt, alloc, (kernel.known, &kernel.exports), MAPPED);
+    let refused = mapped(rt, alloc, b"\n1 T  a").err();
+    shown(rt, alloc, refused, "Some(BadKernelLine { line: 2 })");
+}
+
+fn versions_agree(rt: &impl Abort) {
+    holds(rt, agree(Some(0x1234_5678), None));
+    holds(rt, !agree(Some(0x1_1234_5678), Some(0x1234_5678)));
+}
+
+/// What a module of a test states: its path, its name, its export and its need.
+#[derive(Clone, Copy)]
+struct ModuleRow {
+    path: &'static [u8],
+    name: &'static [u8],
+    export: &'static [u8],
+    need: &'static [u8],
+}
+
+/// Returns a word of visible characters.
+fn word(rt: &impl Abort, alloc: Global, text: &[u8]) -> Name
+    ensures same { result ≡ text.now }
+    ensures graphic { IsTrue (is_graphic result) }
+{
+    holds(rt, is_graphic(text));
+    Name::from_slice(alloc, text).expect(rt, "a name")
+}
+
+/// Whether a text has a `:`.
+fn has_colon(text: &[u8]) -> bool
+    ensures { result ≡ list_any (λ b. b == 58) text.now }
+{
+    text.iter().any(|byte| *byte == b':')
+}
+
+/// Returns a path of visible characters without a `:`.
+fn path(rt: &impl Abort, alloc: Global, text: &[u8]) -> PathText
+    ensures graphic { IsTrue (is_graphic result) }
+    ensures colon { IsTrue (not (list_any (λ b. b == 58) result)) }
+{
+    holds(rt, is_graphic(text));
+    holds(rt, !has_colon(text));
+    PathText::from_slice(alloc, text).expect(rt, "a path")
+}
+
+/// Returns the list of one item.
+fn only<T: Drop>(rt: &impl Abort, alloc: Global, item: T) -> List<T>
+    ensures { result ≡ item ∷ [] }
+{
+    let mut list = List::new(alloc);
+    list.push(item).expect(rt, "a list");
+    list
+}
+
+/// Returns the list of two items.
+fn pair<T: Drop>(rt: &impl Abort, alloc: Global, first: T, second: T) -> List<T>
+    ensures { result ≡ first ∷ second ∷ [] }
+{
+    let mut list = only(rt, alloc, first);
+    list.push(second).expect(rt, "a list");
+    list
+}
+
+/// Returns the one symbol that a module exports.
+fn one_export(rt: &impl Abort, alloc: Global, name: &[u8]) -> Exports
+    ensures distinct { AllPairs (λ a b. a.name ≡ b.name → ⊥) result }
+    ensures graphic { All (λ export. IsTrue (is_graphic export.name)) result }
+{
+    let export = Export {
+        name: word(rt, alloc, name),
+        symbol: 1,
+        crc: None,
+        gpl: false,
+        space: Name::new(alloc),
+    };
+    only(rt, alloc, export)
+}
+
+/// Returns the one symbol that a module needs.
+fn one_need(rt: &impl Abort, alloc: Global, name: &[u8]) -> Needs
+    ensures { All (λ need. IsTrue (is_graphic need.name)) result }
+{
+    let need = Need {
+        name: word(rt, alloc, name),
+        symbol: 2,
+        weak: false,
+        crc: None,
+    };
+    only(rt, alloc, need)
+}
+
+/// Returns the facts of a module.
+fn facts(rt: &impl Abort, alloc: Global, row: ModuleRow) -> Facts
+    ensures good { IsTreeModule result }
+    ensures named { result.name ≡ row.name.now }
+{
+    Facts {
+        path: path(rt, alloc, row.path),
+        name: word(rt, alloc, row.name),
+        exports: one_export(rt, alloc, row.export),
+        needs: one_need(rt, alloc, row.need),
+        aliases: Texts::new(alloc),
+        softdeps: Texts::new(alloc),
+        free: true,
+        imports: Names::new(alloc),
+    }
+}
+
+/// Stops unless two names differ.
+fn expect_apart(rt: &impl Abort, first: &[u8], second: &[u8])
+    ensures { first.now ≡ second.now → ⊥ }
+{
+    let same = first == second;
+    holds(rt, !same);
+}
+
+/// Makes a tree of two modules.
+fn tree_of_two(rt: &impl Abort, alloc: Global, first: ModuleRow, second: ModuleRow) -> TreeFacts
+    ensures tree { IsTree result }
+    ensures long { length result ≡ 2 }
+{
+    expect_apart(rt, first.name, second.name);
+    let first = facts(rt, alloc, first);
+    let second = facts(rt, alloc, second);
+    pair(rt, alloc, first, second)
+}
+
+/// `a`, which exports `fa` and needs a symbol.
+fn a_that_needs(need: &'static [u8]) -> ModuleRow {
+    ModuleRow {
+        path: b"kernel/a.ko",
+        name: b"a",
+        export: b"fa",
+        need,
+    }
+}
+
+/// `b`, which exports `fb` and needs `fa`.
+const B: ModuleRow = ModuleRow {
+    path: b"kernel/b.ko",
+    name: b"b",
+    export: b"fb",
+    need: b"fa",
+};
+
+/// Makes the relation of a tree of two modules.
+fn related(rt: &impl Abort, alloc: Global, tree: &TreeFacts) -> Result<Relation, RelationFault>
+    requires tree { IsTree tree.now }
+    requires long { length tree.now ≡ 2 }
+    ensures long { IfOk result (λ relation. length (closures_by relation) ≡ 2) }
+    ensures relation { IfOk result (IsRelationOf tree.now) }
+{
+    let kernel = usual_kernel(rt, alloc);
+    Relation::make(alloc, tree, &kernel)
+}
+
+/// Who provides `fa`, `printk` and `nosuch`.
+static PROVIDERS: &str = "(Module(TreeIndex(0)), Kernel, Nobody)";
+
+/// Stops unless `a` provides `fa`, the kernel `printk`, and nobody `nosuch`.
+fn expect_providers(rt: &impl Abort, alloc: Global, relation: &Relation) {
+    let fa = relation.provider(b"fa");
+    let printk = relation.provider(b"printk");
+    let nosuch = relation.provider(b"nosuch");
+    shown(rt, alloc, (fa, printk, nosuch), PROVIDERS);
+}
+
+/// On what `a` and `b` depend.
+static CLOSURES: &str = "(List { elements: [] }, List { elements: [TreeIndex(0)] })";
+
+/// Stops unless only `b` depends on a module, `a`.
+fn expect_closures(rt: &impl Abort, alloc: Global, relation: &Relation)
+    requires { length (closures_by relation.now) ≡ 2 }
+{
+    let a = relation.closure(TreeIndex(0));
+    let b = relation.closure(TreeIndex(1));
+    shown(rt, alloc, (a, b), CLOSURES);
+}
+
+/// The one obstacle: `a` needs `nosuch`.
+static NOSUCH: &str = r#"List { elements: [Missing { path: "kernel/a.ko", symbol: "nosuch" }] }"#;
+
+fn a_tree_is_related(rt: &impl Abort, alloc: Global) {
+    let tree = tree_of_two(rt, alloc, a_that_needs(b"nosuch"), B);
+    let Ok(relation) = related(rt, alloc, &tree) else {
+        panic!(rt; "refused");
+    };
+    expect_providers(rt, alloc, &relation);
+    expect_closures(rt, alloc, &relation);
+    shown(rt, alloc, relation.obstacles(), NOSUCH);
+    drop(relation);
+}
+
+fn a_cycle_is_named(rt: &impl Abort, alloc: Global) {
+    let tree = tree_of_two(rt, alloc, a_that_needs(b"fb"), B);
+    let refused = related(rt, alloc, &tree).err();
+    let want = r#"Some(Cycle { names: List { elements: ["a", "b"] } })"#;
+    shown(rt, alloc, refused, want);
+}
+
+/// The index of two modules, the second of which needs the first: dependency lines by names.
+pub(crate) static TWO_MODULES: &[u8] = b"\xb0\x07\xf4\x57\0\x02\0\x01\x20\0\0\x42\
+    \0\0\0\x01\0\0\0\0kernel/a.ko:\0\
+    \0\0\0\x01\0\0\0\x01kernel/b.ko: kernel/a.ko\0\
+    ab\x40\0\0\x0c\x40\0\0\x21";
+
+/// The index of only `built`, with an empty text.
+static BUILT: &[u8] = b"\xb0\x07\xf4\x57\0\x02\0\x01\x20\0\0\x1a\
+    uilt\0\0\0\0\x01\0\0\0\0\0\
+    bb\xc0\0\0\x0c";
+
+/// Makes the files of a tree, with one built-in module.
+fn files_of(
+    alloc: Global,
+    relation: &Relation,
+    tree: &TreeFacts,
+) -> Result<OutputFiles, OutputFault>
+    requires tree { IsTree tree.now }
+    requires relation { IsRelationOf tree.now relation.now }
+{
+    outputs(alloc, relation, tree, b"kernel/lib/built.ko\n")
+}
+
+fn a_tree_has_files(rt: &impl Abort, alloc: Global) {
+    let tree = tree_of_two(rt, alloc, a_that_needs(b"printk"), B);
+    let Ok(relation) = related(rt, alloc, &tree) else {
+        panic!(rt; "refused");
+    };
+    let files = files_of(alloc, &relation, &tree).expect(rt, "files");
+    expect_files(rt, alloc, &files);
+    drop(files);
+    drop(relation);
+}
+
+/// Stops unless these are the files of the tree.
+fn expect_files(rt: &impl Abort, alloc: Global, files: &OutputFiles) {
+    same(rt, files.dep_bin.as_bytes(), TWO_MODULES);
+    same(rt, files.builtin_bin.as_bytes(), BUILT);
+    shown(rt, alloc, (&files.dep, &files.unmet, &files.symbols), TEXTS);
+}
+
+/// The texts of three of the files: modules.dep, modules.unmet and modules.symbols.
+static TEXTS: &str =
+    r##"("kernel/a.ko:\nkernel/b.ko: kernel/a.ko\n", "", "# Aliases for symbols, used by symbol_request().\nalias symbol:fa a\nalias symbol:fb b\n")"##;
+
+#[test]
+fn relations_are_called(rt: HostRuntime) {
+    search_lines_are_read(&rt, rt.alloc());
+    a_search_list_of_ones_own_chooses(&rt, rt.alloc());
+    a_bad_path_is_reported(&rt, rt.alloc());
+    a_kernel_of_ones_own_is_made(&rt, rt.alloc());
+    kernels_are_read(&rt, rt.alloc());
+    kernels_are_read_from_maps(&rt, rt.alloc());
+    versions_agree(&rt);
+    a_tree_is_related(&rt, rt.alloc());
+    a_cycle_is_named(&rt, rt.alloc());
+    a_tree_has_files(&rt, rt.alloc());
+}

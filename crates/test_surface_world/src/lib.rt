@@ -1,0 +1,25 @@
+//! Tests of the public calls of words and of the world, as a user of the libraries makes them: each
+//! once, by its public path, with an answer that was worked out by hand.
+//!
+//! A module of it has the calls of one layer: names and words, files and outputs, the words of the
+//! commands, and the tree of a trial. One has a type of files and one of outputs of a user's own.
+//! It builds on `km_names`, `km_outside`, `kmod_words` and `tree_gen`.
+//!
+//! A call with a long contract is made by a function that promises nothing, so that the contract
+//! isn't carried through the test.
+#![tactic(auto)]
+
+#[cfg(test)]
+mod lists;
+#[cfg(test)]
+mod names;
+#[cfg(test)]
+mod one_file;
+#[cfg(test)]
+mod outside;
+#[cfg(test)]
+mod same;
+#[cfg(test)]
+mod trees;
+#[cfg(test)]
+mod words;
