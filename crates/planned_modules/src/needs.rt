@@ -76,9 +76,6 @@ impl<'p, 'a> ModuleNeeds<'p, 'a> {
     {
         let modules = self.planner.modules();
         let names = soft_names(alloc, self.planner.rules(), modules.name(place), side)?;
-        if names.is_empty() {
-            return Ok(Vec::new(alloc));
-        }
         find_named(alloc, &self.soft, place, &names)
     }
 }
