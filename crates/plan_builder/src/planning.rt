@@ -129,7 +129,9 @@ fn planned_over(
         request.use_blacklist,
         modules,
     )?;
-    planned_steps(alloc, &planner, request)
+    let steps = planned_steps(alloc, &planner, request);
+    drop(planner);
+    steps
 }
 
 /// Makes the plan for a request over sound dependency lines, or finds the first obstacle.

@@ -45,11 +45,9 @@ pub(crate) fn all_steps(
         alloc,
         planner,
         request,
-        members,
+        members: &members,
     };
-    let mut steps = PlanSteps::new(alloc);
-    stepping.push_groups(&mut steps, founds, plan)?;
-    Ok(steps)
+    stepping.steps_of(founds, plan)
 }
 
 /// What the steps of a request are made from.
@@ -59,8 +57,8 @@ struct Stepping<'a> {
     planner: &'a Planner<'a>,
     request: &'a Request,
     /// The names that the requested names are resolved to.
-    members: NameSet<'a>,
-    ghost are_members: { (name : List ℕ) → is_among members name
+    members: &'a NameSet<'a>,
+    ghost are_members: { (name : List ℕ) → is_among members.now name
         ≡ is_member (sources_of planner.now) request.now name },
 }
 
@@ -183,7 +181,38 @@ impl Stepping<'_> {
     }
 
     /// Adds the steps of requested names, whose groups end at some places of an order, and then the
-    /// steps of the rest of the order.
+    /// steps of the rest of the order. Members that are among earlier names are left out.
+    fn push_groups_after<'n>(
+        &self,
+        steps: &mut PlanSteps,
+        earlier: &mut NameSet<'n>,
+        founds: &'n [Found],
+        plan: &GroupedOrder,
+    ) -> Result<(), AllocError>
+        requires long { length plan.now.ends.items ≡ length founds.now }
+        requires ends { RisingEnds plan.now.ends.items (length plan.now.order.items) }
+        requires order { All (λ y. y < length (modules (sources_of self.now.planner.now)))
+            plan.now.order.items }
+        ensures { OnOk result (steps.new ≡ steps.old
+            ++ steps_by (sources_of self.now.planner.now) self.now.request.now earlier.old 0
+            founds.now plan.now.ends.items plan.now.order.items) }
+    {
+        let mut start = 0;
+        for k in 0..founds.len() {
+            let end = plan.ends[k];
+            let names = &founds[k].names;
+            let places = &plan.order[start..end];
+            self.push_own_steps(steps, earlier, names)?;
+            self.push_modules(steps, places)?;
+            insert_all(earlier, names)?;
+            start = end;
+        }
+        let places = &plan.order[start..];
+        self.push_modules(steps, places)
+    }
+
+    /// Adds the steps of requested names, as [`Stepping::push_groups_after`] says, without earlier
+    /// names.
     fn push_groups(
         &self,
         steps: &mut PlanSteps,
@@ -199,19 +228,23 @@ impl Stepping<'_> {
             plan.now.ends.items plan.now.order.items) }
     {
         let mut earlier = NameSet::new(self.alloc);
-        let mut start = 0;
-        for k in 0..founds.len() {
-            let end = plan.ends[k];
-            let names = &founds[k].names;
-            let places = &plan.order[start..end];
-            self.push_own_steps(steps, &earlier, names)?;
-            self.push_modules(steps, places)?;
-            insert_all(&mut earlier, names)?;
-            start = end;
-        }
-        let places = &plan.order[start..];
-        self.push_modules(steps, places)?;
-        Ok(())
+        self.push_groups_after(steps, &mut earlier, founds, plan)
+    }
+
+    /// Makes the steps of requested names, whose groups end at some places of an order, and then
+    /// the steps of the rest of the order.
+    fn steps_of(&self, founds: &[Found], plan: &GroupedOrder) -> Result<PlanSteps, AllocError>
+        requires long { length plan.now.ends.items ≡ length founds.now }
+        requires ends { RisingEnds plan.now.ends.items (length plan.now.order.items) }
+        requires order { All (λ y. y < length (modules (sources_of self.now.planner.now)))
+            plan.now.order.items }
+        ensures { IfOk result (λ steps. steps
+            ≡ steps_by (sources_of self.now.planner.now) self.now.request.now [] 0 founds.now
+            plan.now.ends.items plan.now.order.items) }
+    {
+        let mut steps = PlanSteps::new(self.alloc);
+        self.push_groups(&mut steps, founds, plan)?;
+        Ok(steps)
     }
 }
 

@@ -6,11 +6,10 @@ use Rattle.std.specs.Prelude.{◌||◌}
 use Rattle.std.specs.List.{flat_map}
 use Rattle.std.specs.Str.{bytes_eq}
 use Rattle.std.proofs.lemmas.List.{take_more, map-append, append-nil}
-use Rattle.std.proofs.lemmas.List.Folds.{list_any-append}
+use Rattle.std.proofs.lemmas.List.Folds.{list_any_more}
 use Rattle.std.proofs.lemmas.Grind.{flat_map-append}
 use Rattle.km_names.specs.First.{first}
 use Rattle.name_table.specs.FirstSeen.{is_among}
-use Rattle.planned_modules.proofs.Troubled.{or-false}
 
 module _ {X Y : Type 0} (f : X → Option Y) where
   pub first-here : (xs : List X) (i : ℕ) (x : X) (y : Y) → i < length xs → x ≡ get_or xs i x
@@ -64,7 +63,5 @@ pub among-next : (names : List (List ℕ)) (i : ℕ) (name other : List ℕ) →
     → name ≡ get_or names i name
     → is_among (take (i + 1) names) other ≡ (is_among (take i names) other || bytes_eq other name)
 among-next names i name other l is =
-    ap (λ ns. is_among ns other) (take_more names i name l)
-    ∙ list_any-append (bytes_eq other) (take i names) (get_or names i name ∷ [])
-    ∙ ap (λ b. is_among (take i names) other || b) (or-false (bytes_eq other (get_or names i name)))
+    list_any_more (bytes_eq other) names i name l
     ∙ ap (λ n. is_among (take i names) other || bytes_eq other n) (sym is)

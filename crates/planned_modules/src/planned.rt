@@ -3,15 +3,17 @@ ghost use Rattle.std.specs.Prelude.{◌≡◌, length, IfOk};
 ghost use Rattle.relation_order.specs.Sets.{marked};
 ghost use Rattle.relation_order.specs.Search.{Inside};
 ghost use Rattle.plan_order.specs.Plan.{planned as planned_for};
-ghost use Rattle.plan_order.specs.Lists.{among, items_of};
+ghost use Rattle.plan_order.specs.Lists.{among, items_of, IsPlanned};
 ghost use Rattle.plan_order.specs.Answer.{IsAnswer};
 ghost use Rattle.planned_modules.specs.Needs.{modules as modules_spec, before, after, unloaded};
 ghost use Rattle.planned_modules.specs.Members.{asked, planned as planned_spec};
 ghost use Rattle.planned_modules.specs.Planner.{sources_of};
+ghost use Rattle.planned_modules.specs.Softdeps.{before_once, after_once};
 
 use crate::members::{free_marks, requests_of};
 use crate::needs::ModuleNeeds;
 use crate::planner::Planner;
+use crate::softdeps::soft_table;
 use name_lookup::Found;
 use plan_order::{PlanOrCycle, Planned, find_planned, plan_or_cycle};
 use std::alloc::{AllocError, Global};
@@ -63,9 +65,27 @@ fn planned_among(
         (λ p. IsAnswer (among (before (sources_of planner.now))) (marked free.now)
         (after (sources_of planner.now)) (items_of requests.now) p.answer) }
 {
-    let needs = ModuleNeeds::new(alloc, planner)?;
-    let planned = find_planned(alloc, &needs, free, requests)?;
+    let planned = planned_and_needed(alloc, planner, free, requests)?;
     let answer = plan_or_cycle(alloc, &planned, free, requests)?;
     let Planned { marks, .. } = planned;
     Ok(Planning { marks, answer })
+}
+
+/// Finds what is planned for some requests among the modules that are marked as free, and what each
+/// planned module needs.
+fn planned_and_needed(
+    alloc: Global,
+    planner: &Planner<'_>,
+    free: &[bool],
+    requests: &[Vec<usize>],
+) -> Result<Planned, AllocError>
+    requires free { length free.now ≡ length (modules_spec (sources_of planner.now)) }
+    requires requests { Inside (length (modules_spec (sources_of planner.now))) requests.now }
+    ensures { IfOk result
+        (IsPlanned (length free.now) (before_once (sources_of planner.now)) (marked free.now)
+        (after_once (sources_of planner.now)) (items_of requests.now)) }
+{
+    let soft = soft_table(alloc, planner)?;
+    let needs = ModuleNeeds::new(planner, &soft);
+    find_planned(alloc, &needs, free, requests)
 }

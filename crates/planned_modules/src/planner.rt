@@ -193,7 +193,12 @@ impl<'a> Planner<'a> {
             ≡ list_any (λ y. is_troubled (sources_of self.now).unmet
             (path_at (modules_spec (sources_of self.now)) y)) places.now }
     {
-        places.iter().any(|y| self.is_troubled(*y))
+        for y in places {
+            if self.is_troubled(*y) {
+                return true;
+            }
+        }
+        false
     }
 
     /// Returns whether a module can be loaded: no line is on a need of it, or of a module of its

@@ -53,6 +53,9 @@ pub(crate) fn find_named(
         (flat_map (λ name. unwrap_or (kept_places table.now.entries name) [])
         (texts names.now)))) }
 {
+    if names.is_empty() {
+        return Ok(Vec::new(alloc));
+    }
     let mut found = PlaceSet::with_hasher(alloc, BuildHasherDefault::new());
     let mut looked_up = NameSet::new(alloc);
     find_all(alloc, &mut found, &mut looked_up, table, place, names)

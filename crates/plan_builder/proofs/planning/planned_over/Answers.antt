@@ -9,8 +9,8 @@ use Rattle.plan_builder.specs.Sources.{sources}
 use Rattle.plan_builder.specs.Closed.{IsClosedPlan}
 use Rattle.plan_builder.proofs.planning.planned_over.Goals as goal
 
-pub planned_steps-requires : goal.planned_steps-requires
-planned_steps-requires c =
+pub planned_steps-steps-requires : goal.planned_steps-steps-requires
+planned_steps-steps-requires c =
     ap (λ h. bad_name (sources_of h).maps.dep) c.in_ok-planner.ensures ∙ c.requires.sound
 
 pub returns-clause-plan : goal.returns-clause-plan
@@ -23,8 +23,8 @@ returns-clause-plan c =
     ap sources_of c.in_ok-planner.ensures
     ∙ (λ i. sources c.args.rules.now c.args.indexes.now (c.as_slice.ensures i)
     (c.as_slice-2.ensures i) c.args.request.now) in
-    subst (λ s. IfOk c.planned_steps.result (λ steps. steps ≡ plan_steps s request)) same
-    c.planned_steps.ensures.plan
+    subst (λ s. IfOk c.planned_steps-steps.result (λ steps. steps ≡ plan_steps s request)) same
+    c.planned_steps-steps.ensures.plan
 
 pub returns-clause-passed : goal.returns-clause-passed
 returns-clause-passed c =
@@ -36,8 +36,8 @@ returns-clause-passed c =
     ap sources_of c.in_ok-planner.ensures
     ∙ (λ i. sources c.args.rules.now c.args.indexes.now (c.as_slice.ensures i)
     (c.as_slice-2.ensures i) c.args.request.now) in
-    subst (λ s. OnOk c.planned_steps.result (obstacle_of s request ≡ None)) same
-    c.planned_steps.ensures.passed
+    subst (λ s. OnOk c.planned_steps-steps.result (obstacle_of s request ≡ None)) same
+    c.planned_steps-steps.ensures.passed
 
 pub returns-clause-closed : goal.returns-clause-closed
 returns-clause-closed c =
@@ -48,7 +48,8 @@ returns-clause-closed c =
     ap sources_of c.in_ok-planner.ensures
     ∙ (λ i. sources c.args.rules.now c.args.indexes.now (c.as_slice.ensures i)
     (c.as_slice-2.ensures i) c.args.request.now) in
-    subst (λ s. IfOk c.planned_steps.result (IsClosedPlan s)) same c.planned_steps.ensures.closed
+    subst (λ s. IfOk c.planned_steps-steps.result (IsClosedPlan s)) same
+    c.planned_steps-steps.ensures.closed
 
 pub returns-clause-err : goal.returns-clause-err
 returns-clause-err c =
@@ -60,6 +61,6 @@ returns-clause-err c =
     ap sources_of c.in_ok-planner.ensures
     ∙ (λ i. sources c.args.rules.now c.args.indexes.now (c.as_slice.ensures i)
     (c.as_slice-2.ensures i) c.args.request.now) in
-    subst (λ s. IfErr c.planned_steps.result
+    subst (λ s. IfErr c.planned_steps-steps.result
     (λ o. (o ≡ Memory) ⊎ (option_map as_obstacle (obstacle_of s request) ≡ Some o))) same
-    c.planned_steps.ensures.err
+    c.planned_steps-steps.ensures.err

@@ -1,5 +1,6 @@
 use Rattle.std.proofs.Common.{◌≡◌, ◌==◌, ◌+◌, ◌++◌, ◌∷◌, [], true, false, Some, None, ap, sym, ◌∙◌}
-use Rattle.std.proofs.Common.{inr, take}
+use Rattle.std.proofs.Common.{inr, take, arith}
+use Rattle.std.proofs.lemmas.List.{take_all}
 use Rattle.std.specs.List.{find}
 use Rattle.std.specs.Option.{option_map}
 use Rattle.std.proofs.lemmas.Bool.{eq-eqb, eqb-true, false_from_ne_true}
@@ -57,3 +58,23 @@ loop-name-preserved c =
           ∙ plain-more p c.as_slice-name-items.result.now i c.name-item.result c.loop-name-test.true
           c.name-item.is none (ap (λ f. f.list == 0) (sym c.in_ok-found.ensures) ∙ some);
     }
+
+pub returns-clause-found : goal.returns-clause-found
+returns-clause-found c =
+    let s = sources_of c.args.planner.now in
+    let i = c.loop-name.name-index in
+    let items = c.as_slice-name-items.result.now in
+    c.loop-name.invariant.founds
+    ∙ ap (λ ys. founds_of s (take i ys)) (sym c.as_slice-name-items.ensures)
+    ∙ ap (founds_of s) (take_all i items (omega (arith, c.loop-name-test.false))
+    ∙ c.as_slice-name-items.ensures)
+
+pub returns-clause-passed : goal.returns-clause-passed
+returns-clause-passed c =
+    let p = is_unfound (sources_of c.args.planner.now) in
+    let i = c.loop-name.name-index in
+    let items = c.as_slice-name-items.result.now in
+    sym (ap (find p) (take_all i items (omega (arith, c.loop-name-test.false))
+    ∙ c.as_slice-name-items.ensures))
+    ∙ ap (λ ys. find p (take i ys)) c.as_slice-name-items.ensures
+    ∙ c.loop-name.invariant.passed

@@ -1,6 +1,6 @@
 use Rattle.std.proofs.Common.{◌≡◌, ◌+◌, ◌-◌, ◌<◌, ◌++◌, map, take, drop, length, ap, sym, ◌∙◌}
-use Rattle.std.proofs.Common.{arith}
-use Rattle.std.specs.Prelude.{◌||◌, slice_index}
+use Rattle.std.proofs.Common.{arith, subst}
+use Rattle.std.specs.Prelude.{◌||◌, slice_index, OnOk}
 use Rattle.name_table.specs.FirstSeen.{is_among}
 use Rattle.name_lookup.specs.declared.found.Found.{Found}
 use Rattle.std.proofs.lemmas.List.{get_or_default}
@@ -8,7 +8,7 @@ use Rattle.planned_modules.specs.Planner.{sources_of}
 use Rattle.plan_builder.specs.Steps.{own_steps, module_step}
 use Rattle.plan_builder.specs.Ends.{steps_by}
 use Rattle.plan_builder.proofs.StepLaws.{steps-next, steps-past, rest-slice}
-use Rattle.plan_builder.proofs.steps.Stepping.push_groups.Goals as goal
+use Rattle.plan_builder.proofs.steps.Stepping.push_groups_after.Goals as goal
 
 pub loop-k-preserved : goal.loop-k-preserved
 loop-k-preserved c =
@@ -53,11 +53,12 @@ returns c =
     let request = c.args.self.now.request.now in
     let o = c.loop-k in
     let order = c.args.plan.now.order.items in
-    c.in_ok-push_modules-2.ensures
-    ∙ ap (λ xs. o.steps ++ map (module_step s request) xs)
+    subst (λ xs. OnOk c.push_modules-2.result (c.push_modules-2.new.steps ≡ xs))
+    (ap (λ xs. o.steps ++ map (module_step s request) xs)
     (rest-slice c.deref-2.result.now order o.start (length c.deref-2.result.now)
     c.deref-2.ensures.value (omega arith))
     ∙ ap (λ xs. o.steps ++ xs)
     (sym (steps-past s request o.earlier o.start o.k c.args.founds.now
     (drop o.k c.args.plan.now.ends.items) order (omega arith)))
-    ∙ o.invariant.steps
+    ∙ o.invariant.steps)
+    c.push_modules-2.ensures
