@@ -5,11 +5,11 @@ ghost use Rattle.dependency_lines.specs.Modules.{name_at};
 ghost use Rattle.planned_modules.specs.Needs.{modules as modules_spec, soft_places};
 ghost use Rattle.planned_modules.specs.Planner.{sources_of};
 ghost use Rattle.planned_modules.specs.Kept.{names_on, names_of_side, texts};
-ghost use Rattle.planned_modules.specs.Softdeps.{once, IsSoftTable, all_soft_names};
+ghost use Rattle.planned_modules.specs.Softdeps.{once};
 
 use crate::planner::Planner;
 use crate::rule_table::RuleTable;
-use crate::softdeps::{SoftTable, find_named};
+use crate::softdeps::{SoftTable, find_named, soft_table};
 use km_names::{Name, Names};
 use modprobe_conf::Rule;
 use plan_order::{Needed, Needs};
@@ -33,12 +33,12 @@ pub(crate) fn push_all<'a>(names: &mut Vec<&'a Name>, more: &'a Names) -> Result
     Ok(())
 }
 
-/// What each module needs, over what the names of soft dependencies stand for. Contracts see what
+/// What each module needs, with what the names of soft dependencies stand for. Contracts see what
 /// the planner is made from.
 #[derive(Drop)]
 pub(crate) struct ModuleNeeds<'p, 'a> {
     planner: &'p Planner<'a>,
-    soft: &'p SoftTable<'a>,
+    soft: SoftTable<'a>,
 }
 
 impl<'p, 'a> Model for ModuleNeeds<'p, 'a> {
@@ -50,17 +50,19 @@ impl<'p, 'a> Model for ModuleNeeds<'p, 'a> {
     ghost view = { λ n. n.planner.now };
 
     ghost invariant = { λ n. IsSoftTable (sources_of n.planner.now)
-        (all_soft_names n.planner.now.rules) n.soft.now.entries };
+        (all_soft_names n.planner.now.rules) n.soft.entries };
 }
 
 impl<'p, 'a> ModuleNeeds<'p, 'a> {
-    /// Makes the needs of a planner's modules, over the table of its soft dependencies' names.
-    pub(crate) fn new(planner: &'p Planner<'a>, soft: &'p SoftTable<'a>) -> ModuleNeeds<'p, 'a>
-        requires { IsSoftTable (sources_of planner.now) (all_soft_names planner.now.rules)
-            soft.now.entries }
-        ensures { result ≡ planner.now }
+    /// Makes the needs of a planner's modules.
+    pub(crate) fn new(
+        alloc: Global,
+        planner: &'p Planner<'a>,
+    ) -> Result<ModuleNeeds<'p, 'a>, AllocError>
+        ensures { IfOk result (λ needs. needs ≡ planner.now) }
     {
-        ModuleNeeds { planner, soft }
+        let soft = soft_table(alloc, planner)?;
+        Ok(ModuleNeeds { planner, soft })
     }
 
     /// Returns the modules that soft dependencies name on one side of a module, each once.
@@ -74,7 +76,7 @@ impl<'p, 'a> ModuleNeeds<'p, 'a> {
     {
         let modules = self.planner.modules();
         let names = soft_names(alloc, self.planner.rules(), modules.name(place), side)?;
-        find_named(alloc, self.soft, place, &names)
+        find_named(alloc, &self.soft, place, &names)
     }
 }
 

@@ -13,7 +13,6 @@ ghost use Rattle.planned_modules.specs.Softdeps.{before_once, after_once};
 use crate::members::{free_marks, requests_of};
 use crate::needs::ModuleNeeds;
 use crate::planner::Planner;
-use crate::softdeps::soft_table;
 use name_lookup::Found;
 use plan_order::{PlanOrCycle, Planned, find_planned, plan_or_cycle};
 use std::alloc::{AllocError, Global};
@@ -85,7 +84,6 @@ fn planned_and_needed(
         (IsPlanned (length free.now) (before_once (sources_of planner.now)) (marked free.now)
         (after_once (sources_of planner.now)) (items_of requests.now)) }
 {
-    let soft = soft_table(alloc, planner)?;
-    let needs = ModuleNeeds::new(planner, &soft);
+    let needs = ModuleNeeds::new(alloc, planner)?;
     find_planned(alloc, &needs, free, requests)
 }

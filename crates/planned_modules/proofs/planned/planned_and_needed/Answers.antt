@@ -16,4 +16,4 @@ returns c =
     (sym c.requires.free)
     (subst (λ h. IfOk c.find_planned.result
     (IsPlanned (length (modules (sources_of h))) (before_once (sources_of h)) set
-    (after_once (sources_of h)) asks)) c.new-needs.ensures c.find_planned.ensures)
+    (after_once (sources_of h)) asks)) c.in_ok-needs.ensures c.find_planned.ensures)

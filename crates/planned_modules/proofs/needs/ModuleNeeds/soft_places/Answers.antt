@@ -13,7 +13,7 @@ use Rattle.planned_modules.proofs.needs.ModuleNeeds.soft_places.Goals as goal
 pub returns : goal.returns
 returns c =
     let s = sources_of c.self.inside.planner.now in
-    let lists = c.self.inside.soft.now.entries in
+    let lists = c.self.inside.soft.entries in
     let side = c.args.side in
     let place = c.args.place in
     let own = name_at (modules s) place in
