@@ -8,13 +8,13 @@
 #![tactic(auto)]
 
 mod file_system;
-mod image;
+mod images;
 mod listed;
 mod objects;
 mod row;
 
 pub use file_system::{FILE_SYSTEM, FILE_SYSTEM_KERNEL};
-pub use image::image;
+pub use images::image;
 pub use objects::{FOLDER, Objects, objects_with, path_in, words_of};
 pub use row::{
     EXTRA, Failing, FileRow, INDEX, INDEXED, IndexedRow, ModuleRow, Row, RowOf, SYMVERS,
