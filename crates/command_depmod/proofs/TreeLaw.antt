@@ -23,7 +23,8 @@ use Rattle.std.proofs.lemmas.Slice.Eq.{bytes_eq-Decides}
 use Rattle.km_names.specs.Ascii.{is_graphic}
 use Rattle.km_names.specs.Lines.{lines_of}
 use Rattle.km_names.specs.Path.{module_name}
-use Rattle.mod_tree.specs.Order.{bytes_cmp, in_order}
+use Rattle.km_names.specs.Order.{by_bytes}
+use Rattle.mod_tree.specs.Order.{in_order}
 use Rattle.mod_tree.specs.Tree.{is_module_path, is_bad_byte, choice_cmp, is_chosen, listing_cmp}
 use Rattle.mod_tree.specs.Tree.{tree_paths, name_count, lesser, least, bad_path, tree_unless}
 use Rattle.mod_tree.specs.Tree.{tree_of}
@@ -43,7 +44,7 @@ listing_same : (lines : List (List ℕ)) → finmap.IsAntisymmetric (listing_cmp
 listing_same lines p q e =
     bytes_same p q
     (second (nat_cmp (position_or_len (bytes_eq p) lines) (position_or_len (bytes_eq q) lines))
-    (bytes_cmp p q) e)
+    (by_bytes p q) e)
   where
     second : (a b : Ordering) → ordering_then a b ≡ Equal → b ≡ Equal
     second Less b e = cc
@@ -275,7 +276,7 @@ least-none (x ∷ xs) e = absurd (some (least xs) e)
 
     some : (o : Option (List ℕ)) → lesser x o ≡ None → ⊥
     some None e = cc
-    some (Some q) e = chosen (is_lt (bytes_cmp x q)) q e
+    some (Some q) e = chosen (is_lt (by_bytes x q)) q e
 
 -- what a tree says: no path is bad, there aren't too many names, and these are its paths
 parts : (bad : Option (List ℕ)) (count : ℕ) (made paths : List (List ℕ))
@@ -324,15 +325,15 @@ known words lines listed clear few =
     record {
       few =
           let within : length (map module_name tree)
-          ≤ length (in_order bytes_cmp (map module_name ms))
+          ≤ length (in_order by_bytes (map module_name ms))
           = length-le_from_is_member bytes_equiv (map module_name tree)
-          (in_order bytes_cmp (map module_name ms)) both.1 (λ n h.
+          (in_order by_bytes (map module_name ms)) both.1 (λ n h.
           members bytes_total bytes_same n (map module_name ms) ∙ names-among n tree ms there h) in
           omega (
             arith,
             within,
             length-map tree module_name,
-            ltb-false 10000 (length (in_order bytes_cmp (map module_name ms))) few,
+            ltb-false 10000 (length (in_order by_bytes (map module_name ms))) few,
           );
       distinct = both.0;
       graphic

@@ -27,7 +27,8 @@ use Rattle.devname_nodes.specs.declared.alias.DeviceNumber.{DeviceNumber}
 use Rattle.devname_nodes.specs.declared.node.Node.{Node}
 use Rattle.devname_nodes.specs.Numbers.{number, has_leading_zero, plain_number, plain_numbers}
 use Rattle.devname_nodes.specs.Numbers.{numbers}
-use Rattle.devname_nodes.specs.Nodes.{after_prefix, word, device_of, numbered, number_of}
+use Rattle.km_names.specs.Prefix.{rest_after}
+use Rattle.devname_nodes.specs.Nodes.{word, device_of, numbered, number_of}
 use Rattle.devname_nodes.specs.Nodes.{is_comment, node_by, node_of, nodes_of}
 use Rattle.devname_nodes.specs.Line.{node_line, letter, kind_of, device_word, node_of_words}
 use Rattle.devname_nodes.specs.Line.{line_node, is_ignored, IsNode}
@@ -276,7 +277,7 @@ first-gives {X} P f each (a ∷ texts) x is =
     first-step P (f a) (map f texts) x (each a) (first-gives P f each texts x) is
 
 device-word : (alias device : List ℕ) → device_of alias ≡ Some device → is_graphic device ≡ true
-device-word alias device is = go (after_prefix (codes "devname:") alias) is
+device-word alias device is = go (rest_after (codes "devname:") alias) is
   where
     named : (text : List ℕ) (b : Bool) → is_graphic text ≡ b → cond b (Some text) None ≡ Some device
         → is_graphic device ≡ true
@@ -340,15 +341,15 @@ numbered-small block (Some text) k is = go (numbers text) refl is
         = cc in subst IsSmall same (numbers-small text n e)
 
 number-of-small : (alias : List ℕ) (k : DeviceNumber) → number_of alias ≡ Some k → IsSmall k
-number-of-small alias k is = go (is_some (after_prefix (codes "char-major-") alias)) is
+number-of-small alias k is = go (is_some (rest_after (codes "char-major-") alias)) is
   where
     go : (b : Bool)
-        → cond b (numbered false (after_prefix (codes "char-major-") alias))
-        (numbered true (after_prefix (codes "block-major-") alias))
+        → cond b (numbered false (rest_after (codes "char-major-") alias))
+        (numbered true (rest_after (codes "block-major-") alias))
         ≡ Some k
         → IsSmall k
-    go true h = numbered-small false (after_prefix (codes "char-major-") alias) k h
-    go false h = numbered-small true (after_prefix (codes "block-major-") alias) k h
+    go true h = numbered-small false (rest_after (codes "char-major-") alias) k h
+    go false h = numbered-small true (rest_after (codes "block-major-") alias) k h
 
 node-good : (f : Facts) (n : Node) → is_graphic f.name ≡ true → node_of f ≡ Some n → IsNode n
 unfolding node_of

@@ -1,21 +1,17 @@
 -- The device nodes that modules ask for, by their aliases. kmod's depmod, "devname"; the kernel's
 -- MODULE_ALIAS_MISCDEV, MODULE_ALIAS_CHARDEV and MODULE_ALIAS_BLOCKDEV, include/linux/miscdevice.h,
 -- include/linux/fs.h.
-use Rattle.std.specs.Prelude.{ℕ, ◌==◌, ◌&&◌, Bool, true, false, List, map, length, drop, nat_eq}
+use Rattle.std.specs.Prelude.{ℕ, ◌==◌, ◌&&◌, Bool, true, false, List, map, length}
 use Rattle.std.specs.Prelude.{nat_lt, Option, Some, None, option_map, option_and_then, is_some}
 use Rattle.std.specs.Prelude.{if◌then◌else◌, codes, slice_index}
-use Rattle.std.specs.List.{filter_map, starts_with}
+use Rattle.std.specs.List.{filter_map}
 use Rattle.km_names.specs.Ascii.{is_graphic}
 use Rattle.km_names.specs.First.{first}
+use Rattle.km_names.specs.Prefix.{rest_after}
 use Rattle.module_facts.specs.declared.facts.Facts.{Facts}
 use Rattle.devname_nodes.specs.declared.alias.DeviceNumber.{DeviceNumber}
 use Rattle.devname_nodes.specs.declared.node.Node.{Node}
 use Rattle.devname_nodes.specs.Numbers.{numbers}
-
--- The rest of a text after a prefix, if the text begins with it.
-abbrev pub after_prefix : List ℕ → List ℕ → Option (List ℕ)
-after_prefix prefix text =
-    if starts_with nat_eq text prefix then Some (drop (length prefix) text) else None
 
 -- A word of visible characters, or none.
 abbrev pub word : List ℕ → Option (List ℕ)
@@ -23,7 +19,7 @@ word text = if is_graphic text then Some text else None
 
 -- The device that an alias names: the text after `devname:`, if it is a word of visible characters.
 abbrev pub device_of : List ℕ → Option (List ℕ)
-device_of alias = option_and_then word (after_prefix (codes "devname:") alias)
+device_of alias = option_and_then word (rest_after (codes "devname:") alias)
 
 -- The device number that an alias states as `char-major-M-N` or as `block-major-M-N`.
 abbrev pub numbered : Bool → Option (List ℕ) → Option DeviceNumber
@@ -33,9 +29,9 @@ numbered block text =
 
 abbrev pub number_of : List ℕ → Option DeviceNumber
 number_of alias =
-    if is_some (after_prefix (codes "char-major-") alias)
-    then numbered false (after_prefix (codes "char-major-") alias)
-    else numbered true (after_prefix (codes "block-major-") alias)
+    if is_some (rest_after (codes "char-major-") alias)
+    then numbered false (rest_after (codes "char-major-") alias)
+    else numbered true (rest_after (codes "block-major-") alias)
 
 -- Whether a text begins as a comment.
 abbrev pub is_comment : List ℕ → Bool

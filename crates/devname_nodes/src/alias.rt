@@ -1,7 +1,8 @@
 // Device nodes in aliases.
 ghost use Rattle.std.specs.Prelude.{◌≡◌, option_map, map};
 ghost use Rattle.km_names.specs.First.{first};
-ghost use Rattle.devname_nodes.specs.Nodes.{device_of, number_of, after_prefix};
+ghost use Rattle.km_names.specs.Prefix.{rest_after};
+ghost use Rattle.devname_nodes.specs.Nodes.{device_of, number_of};
 
 use crate::number::numbers;
 use km_names::{Blob, is_graphic};
@@ -76,7 +77,7 @@ fn number_of(alias: &[u8]) -> Option<DeviceNumber>
 
 /// Returns what follows a prefix, if the text begins with it.
 fn after<'a>(prefix: &[u8], text: &'a [u8]) -> Option<&'a [u8]>
-    ensures { option_map (λ rest. rest.now) result ≡ after_prefix prefix.now text.now }
+    ensures { option_map (λ rest. rest.now) result ≡ rest_after prefix.now text.now }
 {
     if text.starts_with(prefix) {
         Some(&text[prefix.len()..])

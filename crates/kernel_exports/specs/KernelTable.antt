@@ -1,11 +1,11 @@
 -- The exports of a kernel, by the tables that its build writes.
-use Rattle.std.specs.Prelude.{ℕ, ◌≡◌, not, false, List, [], ◌∷◌, ◌++◌, AllPairs, nat_eq, map}
-use Rattle.std.specs.Prelude.{filter, drop, codes, Option, Some, None, option_map, Result}
-use Rattle.std.specs.Prelude.{if◌then◌else◌}
-use Rattle.std.specs.List.{filter_map, list_any, starts_with}
+use Rattle.std.specs.Prelude.{ℕ, ◌≡◌, not, false, List, [], ◌∷◌, ◌++◌, AllPairs, map}
+use Rattle.std.specs.Prelude.{filter, codes, Option, Some, None, option_map, Result, if◌then◌else◌}
+use Rattle.std.specs.List.{filter_map, list_any}
 use Rattle.std.specs.Option.{option_or}
 use Rattle.std.specs.Str.{bytes_eq}
 use Rattle.km_names.specs.Statements.{unless_fault}
+use Rattle.km_names.specs.Prefix.{rest_after}
 use Rattle.name_table.specs.NameTable.{Table, IsTableOf}
 use Rattle.kernel_exports.specs.declared.kernel.KernelExport.{KernelExport}
 use Rattle.kernel_exports.specs.TableLines.{refused_line, stated}
@@ -44,8 +44,7 @@ with_addresses symbols exports = map (with_its_address symbols) exports
 -- The name that an entry is for: N if its own name is `__ksymtab_N`. The kernel's
 -- include/linux/export.h.
 abbrev pub exported_name : List ℕ → Option (List ℕ)
-exported_name name =
-    if starts_with nat_eq name (codes "__ksymtab_") then Some (drop 10 name) else None
+exported_name name = rest_after (codes "__ksymtab_") name
 
 -- The export of an entry: it has no version, is for all modules, and is in no namespace.
 abbrev pub export_of_entry : List ℕ → KernelExport

@@ -4,7 +4,9 @@ pub mod First
 pub mod Limit
 pub mod Lines
 pub mod Number
+pub mod Order
 pub mod Path
+pub mod Prefix
 pub mod Space
 pub mod Statements
 pub mod Strings

@@ -3,7 +3,8 @@ use Rattle.std.proofs.Common.{◌≡◌, ℕ, Bool, true, false, ◌&&◌, T, co
 use Rattle.std.proofs.Common.{length, take, drop, filter, filter_map, All, Some, None, Option}
 use Rattle.std.proofs.Common.{bytes_eq, Decides, IsSorted, IsPermutation, refl, sym, ap, subst, ◌∙◌}
 use Rattle.std.specs.Global.{Vec}
-use Rattle.std.specs.List.{AllByRecursion, cons_option}
+use Rattle.std.specs.Prelude.{nat_eq}
+use Rattle.std.specs.List.{AllByRecursion, cons_option, starts_with}
 use Rattle.std.specs.List.Retain.{IsFiltered, DiffersFromLast}
 use Rattle.std.specs.declared.cmp.Ordering.{Ordering}
 use Rattle.std.specs.List.Sorted.{IsStrictlySortedBy}
@@ -108,24 +109,24 @@ alike (x ∷ p) r s =
     ap (λ o. ordering_then o (by_bytes (p ++ r) (p ++ s))) (sym (nat_cmp_is x x Equal refl))
     ∙ alike p r s
 
-begins : (p path : List ℕ) (b : Bool) → bytes_eq (take (length p) path) p ≡ b → b ≡ true
+begins : (p path : List ℕ) (b : Bool) → starts_with nat_eq path p ≡ b → b ≡ true
     → path ≡ p ++ drop (length p) path
 begins p path b e t =
     sym (take-append-drop (length p) path)
     ∙ ap (λ front. front ++ drop (length p) path)
-    (decided (bytes_eq-Decides (take (length p) path) p) (e ∙ t))
+    (sym (decided (bytes_eq-Decides p (take (length p) path)) (e ∙ t)))
   where
     decided : {P : Type 0} {b : Bool} → Decides b P → b ≡ true → P
     decided d t = d.0 t
 
 after-is : (p path rest : List ℕ) → rest_after p path ≡ Some rest → path ≡ p ++ rest
 after-is p path rest =
-    by_test (bytes_eq (take (length p) path) p) refl
+    by_test (starts_with nat_eq path p) refl
   where
     same : (a b : List ℕ) → Some a ≡ Some b → a ≡ b
     same a b e = cc
 
-    by_test : (b : Bool) → bytes_eq (take (length p) path) p ≡ b
+    by_test : (b : Bool) → starts_with nat_eq path p ≡ b
         → cond b (Some (drop (length p) path)) None ≡ Some rest → path ≡ p ++ rest
     by_test true is e = begins p path true is refl ∙ ap (λ r. p ++ r) (same _ _ e)
     by_test false is e = cc

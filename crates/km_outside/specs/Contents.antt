@@ -1,26 +1,14 @@
 -- The files of a machine, and what is listed of a folder.
-use Rattle.std.specs.Prelude.{ℕ, nat_lt, nat_eq, ◌==◌, ◌&&◌, Bool, not, List, [], length, take}
-use Rattle.std.specs.Prelude.{drop, codes, Option, Some, None, if◌then◌else◌}
+use Rattle.std.specs.Prelude.{ℕ, nat_lt, nat_eq, ◌==◌, ◌&&◌, Bool, not, List, [], length, codes}
 use Rattle.std.specs.List.{filter, filter_map, ends_with, list_any}
-use Rattle.std.specs.Str.{bytes_eq}
-use Rattle.std.specs.Ordering.{nat_cmp}
-use Rattle.std.specs.declared.cmp.Ordering.{Ordering}
-use Rattle.std.specs.Cmp.Lexicographic.{slice_cmp}
 use Rattle.std.specs.FinMap as map
 use Rattle.km_names.specs.Path.{path_below}
-
--- The order of paths and names: by their bytes.
-abbrev pub by_bytes : List ℕ → List ℕ → Ordering
-by_bytes = slice_cmp nat_cmp
+pub use Rattle.km_names.specs.Order.{by_bytes}
+pub use Rattle.km_names.specs.Prefix.{rest_after}
 
 -- The files of a machine: a map from the bytes of a path to the bytes of the file there.
 abbrev pub Contents : Type 0
 Contents = map.FinMap by_bytes (List ℕ)
-
--- The part of the path after the prefix, if the path begins with the prefix.
-abbrev pub rest_after : List ℕ → List ℕ → Option (List ℕ)
-rest_after prefix path =
-    if bytes_eq (take (length prefix) path) prefix then Some (drop (length prefix) path) else None
 
 -- The paths below a folder: the rest of each path that begins with the folder and a slash, in the
 -- order of the paths.

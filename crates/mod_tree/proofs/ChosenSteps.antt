@@ -14,7 +14,7 @@ use Rattle.std.proofs.lemmas.List.{at_drop_more, at_drop_all, append_assoc, appe
 use Rattle.std.proofs.lemmas.List.Elements.{recursion_from_All, All-same}
 use Rattle.std.proofs.lemmas.List.Sorted.{ranks_by, IsPermutation-map, All-permutation}
 use Rattle.km_names.specs.Path.{module_name}
-use Rattle.mod_tree.specs.Order.{bytes_cmp}
+use Rattle.km_names.specs.Order.{by_bytes}
 use Rattle.mod_tree.specs.Tree.{rank}
 use Rattle.mod_tree.specs.Shown.{referents}
 use Rattle.mod_tree.specs.declared.chosen.Candidate.{Candidate}
@@ -102,8 +102,8 @@ path-more list modules i m c l is same =
 -- candidates as they are compared
 abbrev pub candidate_cmp : Candidate → Candidate → Ordering
 candidate_cmp c d =
-    ordering_then (bytes_cmp c.name.items d.name.items)
-    (ordering_then (nat_cmp c.rank d.rank) (bytes_cmp c.path.now d.path.now))
+    ordering_then (by_bytes c.name.items d.name.items)
+    (ordering_then (nat_cmp c.rank d.rank) (by_bytes c.path.now d.path.now))
 
 candidate_total : IsTotalOrder candidate_cmp
 candidate_total =
@@ -122,22 +122,22 @@ same-order : (search : List (List ℕ)) (x y : Candidate) → IsCandidate search
     → IsCandidate search y
     → is_lt (full_cmp search (path_of y) (path_of x)) ≡ is_lt (candidate_cmp y x)
 same-order words x y a b =
-    let z = bytes_cmp y.path.now x.path.now in
+    let z = by_bytes y.path.now x.path.now in
     sym (
-    ap is_lt (sym (together (bytes_cmp y.name.items x.name.items) (nat_cmp y.rank x.rank) z))
+    ap is_lt (sym (together (by_bytes y.name.items x.name.items) (nat_cmp y.rank x.rank) z))
     ∙ ap (λ n. is_lt
-    (ordering_then (ordering_then (bytes_cmp n x.name.items) (nat_cmp y.rank x.rank)) z)) b.name
+    (ordering_then (ordering_then (by_bytes n x.name.items) (nat_cmp y.rank x.rank)) z)) b.name
     ∙ ap (λ n. is_lt
     (ordering_then
-    (ordering_then (bytes_cmp (module_name y.path.now) n) (nat_cmp y.rank x.rank)) z))
+    (ordering_then (by_bytes (module_name y.path.now) n) (nat_cmp y.rank x.rank)) z))
     a.name
     ∙ ap (λ r. is_lt
     (ordering_then
-    (ordering_then (bytes_cmp (module_name y.path.now) (module_name x.path.now))
+    (ordering_then (by_bytes (module_name y.path.now) (module_name x.path.now))
     (nat_cmp r x.rank)) z)) b.rank_is
     ∙ ap (λ r. is_lt
     (ordering_then
-    (ordering_then (bytes_cmp (module_name y.path.now) (module_name x.path.now))
+    (ordering_then (by_bytes (module_name y.path.now) (module_name x.path.now))
     (nat_cmp (rank words y.path.now) r)) z)) a.rank_is
     )
 

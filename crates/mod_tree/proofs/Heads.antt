@@ -5,8 +5,7 @@ use Rattle.std.specs.Prelude.{not, ◌&&◌, ◌||◌, map}
 use Rattle.std.specs.List.{AllByRecursion, list_any, list_all, count_by}
 use Rattle.std.specs.List.Sorted.{IsPermutation}
 use Rattle.std.specs.Str.{bytes_eq}
-use Rattle.std.specs.Cmp.{IsTotalOrder}
-use Rattle.std.specs.Cmp.{on_total, then_total, nat_cmp_total}
+use Rattle.std.specs.Cmp.{IsTotalOrder, on_total, then_total, nat_cmp_total}
 use Rattle.std.specs.Cmp.Lexicographic.{nat_list_cmp_total}
 use Rattle.std.specs.Ordering.{nat_cmp, ordering_then, is_lt}
 use Rattle.std.specs.declared.cmp.Ordering.TheVariants.{Less, Equal, Greater}
@@ -18,25 +17,25 @@ use Rattle.std.proofs.lemmas.List.{length-map}
 use Rattle.std.proofs.lemmas.List.Sorted.{list_any-IsPermutation, IsPermutation-map}
 use Rattle.std.proofs.lemmas.List.Sums.{sum_by-cons}
 use Rattle.km_names.specs.Path.{module_name}
-use Rattle.mod_tree.specs.Order.{bytes_cmp}
+use Rattle.km_names.specs.Order.{by_bytes}
 use Rattle.mod_tree.specs.Tree.{rank, choice_cmp, is_chosen, name_count}
 use Rattle.mod_tree.specs.Chosen.{is_name, heads, HasChosen}
 use Rattle.mod_tree.proofs.Ascending.{Ascends, IsStrict, all-has, sorted-cons, below-from_other}
 use Rattle.mod_tree.proofs.Ascending.{equal-from_both, not_below_itself, bytes_eq-other, strict-low}
 use Rattle.mod_tree.proofs.Ascending.{strict-rest, any-eq, any-filter, in_order-is}
 
-pub bytes_total : IsTotalOrder bytes_cmp
+pub bytes_total : IsTotalOrder by_bytes
 bytes_total = nat_list_cmp_total
 
-pub bytes_same : IsAntisymmetric bytes_cmp
+pub bytes_same : IsAntisymmetric by_bytes
 bytes_same = slice_cmp-IsAntisymmetric nat_cmp-IsAntisymmetric
 
 -- by name, rank and bytes
 abbrev pub full_cmp : List (List ℕ) → List ℕ → List ℕ → Ordering
 full_cmp search p q =
     ordering_then
-    (ordering_then (bytes_cmp (module_name p) (module_name q))
-    (nat_cmp (rank search p) (rank search q))) (bytes_cmp p q)
+    (ordering_then (by_bytes (module_name p) (module_name q))
+    (nat_cmp (rank search p) (rank search q))) (by_bytes p q)
 
 pub choice_total : (search : List (List ℕ)) → IsTotalOrder (choice_cmp search)
 choice_total search = then_total (on_total (rank search) nat_cmp_total) nat_list_cmp_total
@@ -48,7 +47,7 @@ then-equal Greater b e = cc
 
 pub choice_same : (search : List (List ℕ)) → IsAntisymmetric (choice_cmp search)
 choice_same search p q e =
-    bytes_same p q (then-equal (nat_cmp (rank search p) (rank search q)) (bytes_cmp p q) e)
+    bytes_same p q (then-equal (nat_cmp (rank search p) (rank search q)) (by_bytes p q) e)
 
 first-part : (a b c : Ordering) → is_lt (ordering_then (ordering_then a b) c) ≡ false
     → is_lt a ≡ false
@@ -58,25 +57,25 @@ first-part Greater b c e = refl
 
 -- the name of one after another isn't below its
 name-after : (search : List (List ℕ)) (q p : List ℕ) → is_lt (full_cmp search q p) ≡ false
-    → is_lt (bytes_cmp (module_name q) (module_name p)) ≡ false
-name-after search q p e = first-part (bytes_cmp (module_name q) (module_name p)) _ _ e
+    → is_lt (by_bytes (module_name q) (module_name p)) ≡ false
+name-after search q p e = first-part (by_bytes (module_name q) (module_name p)) _ _ e
 
 -- and one of the same name isn't before it in the order of choice
 choice-after : (search : List (List ℕ)) (q p : List ℕ)
     → bytes_eq (module_name p) (module_name q) ≡ true → is_lt (full_cmp search q p) ≡ false
     → is_lt (choice_cmp search q p) ≡ false
 choice-after search q p named e =
-    let tie : bytes_cmp (module_name q) (module_name p) ≡ Equal
-    = ap (bytes_cmp (module_name q))
+    let tie : by_bytes (module_name q) (module_name p) ≡ Equal
+    = ap (by_bytes (module_name q))
     ((bytes_eq-Decides (module_name p) (module_name q)).0 named)
     ∙ tied_itself bytes_total (module_name q) in
     ap (λ r. is_lt (ordering_then (ordering_then r (nat_cmp (rank search q) (rank search p)))
-    (bytes_cmp q p))) (sym tie)
+    (by_bytes q p))) (sym tie)
     ∙ e
 
 abbrev pub NotBelow : Option (List ℕ) → List ℕ → Type 0
 NotBelow None p = Unit {0}
-NotBelow (Some m) p = is_lt (bytes_cmp (module_name p) m) ≡ false
+NotBelow (Some m) p = is_lt (by_bytes (module_name p) m) ≡ false
 
 names-after : (search : List (List ℕ)) (p : List ℕ) (ps : List (List ℕ))
     → AllByRecursion (λ q. is_lt (full_cmp search q p) ≡ false) ps
@@ -102,14 +101,14 @@ none-before search p (r ∷ ps) all =
 
 -- a name that isn't below m, and below which m isn't, is m
 not_name : (prev : Option (List ℕ)) (p q : List ℕ) → NotBelow prev p
-    → is_lt (bytes_cmp (module_name q) (module_name p)) ≡ false
+    → is_lt (by_bytes (module_name q) (module_name p)) ≡ false
     → bytes_eq (module_name p) (module_name q) ≡ false → is_name prev (module_name q) ≡ false
 not_name None p q low after other = refl
 not_name (Some m) p q low after other = false_from_ne_true (bytes_eq m (module_name q)) (λ is.
     let e : m ≡ module_name q = (bytes_eq-Decides m (module_name q)).0 is in
     bytes_eq-other (module_name p) (module_name q) other
     (equal-from_both bytes_total bytes_same (module_name p) (module_name q)
-    (subst (λ n. is_lt (bytes_cmp (module_name p) n) ≡ false) e low) after))
+    (subst (λ n. is_lt (by_bytes (module_name p) n) ≡ false) e low) after))
 
 same-name : (prev : Option (List ℕ)) (n m : List ℕ) → bytes_eq n m ≡ true
     → is_name prev m ≡ is_name prev n
@@ -261,13 +260,13 @@ heads-has words prev (p ∷ ps) up low q =
     (heads-has words (Some (module_name p)) ps up.1 (names-after words p ps up.0) q)
 
 -- the names of the heads strictly rise, each above the one before
-above-later : (m n : List ℕ) (ns : List (List ℕ)) → is_lt (bytes_cmp m n) ≡ true
-    → list_all (λ k. is_lt (bytes_cmp n k)) ns ≡ true
-    → list_all (λ k. is_lt (bytes_cmp m k)) ns ≡ true
+above-later : (m n : List ℕ) (ns : List (List ℕ)) → is_lt (by_bytes m n) ≡ true
+    → list_all (λ k. is_lt (by_bytes n k)) ns ≡ true
+    → list_all (λ k. is_lt (by_bytes m k)) ns ≡ true
 above-later m n [] low high = refl
 above-later m n (k ∷ ns) low high =
     let p = and_parts _ _ high in
-    and_from _ _ (less-trans (bytes_cmp m n) (bytes_cmp n k) refl refl low p.0)
+    and_from _ _ (less-trans (by_bytes m n) (by_bytes n k) refl refl low p.0)
     (above-later m n ns low p.1)
   where
     less-of : (r : Ordering) → is_lt r ≡ true → r ≡ Less
@@ -275,43 +274,43 @@ above-later m n (k ∷ ns) low high =
     less-of Equal e = absurd (true≢false (sym e))
     less-of Greater e = absurd (true≢false (sym e))
 
-    less-trans : (r s : Ordering) → bytes_cmp m n ≡ r → bytes_cmp n k ≡ s → is_lt r ≡ true
-        → is_lt s ≡ true → is_lt (bytes_cmp m k) ≡ true
+    less-trans : (r s : Ordering) → by_bytes m n ≡ r → by_bytes n k ≡ s → is_lt r ≡ true
+        → is_lt s ≡ true → is_lt (by_bytes m k) ≡ true
     less-trans r s e f l h = ap is_lt (bytes_total.trans m n k (e ∙ less-of r l) (f ∙ less-of s h))
 
 abbrev AboveName : Option (List ℕ) → List (List ℕ) → Type 0
 AboveName None ns = Unit {0}
-AboveName (Some m) ns = list_all (λ n. is_lt (bytes_cmp m n)) ns ≡ true
+AboveName (Some m) ns = list_all (λ n. is_lt (by_bytes m n)) ns ≡ true
 
 all-none : (ps : List (List ℕ)) → AllByRecursion (NotBelow None) ps
 all-none [] = tt
 all-none (p ∷ ps) = (tt, all-none ps)
 
 heads-names-step : (prev : Option (List ℕ)) (p : List ℕ) (rest : List (List ℕ)) → NotBelow prev p
-    → IsStrict bytes_cmp (map module_name rest)
-    → list_all (λ n. is_lt (bytes_cmp (module_name p) n)) (map module_name rest) ≡ true → (b : Bool)
+    → IsStrict by_bytes (map module_name rest)
+    → list_all (λ n. is_lt (by_bytes (module_name p) n)) (map module_name rest) ≡ true → (b : Bool)
     → is_name prev (module_name p) ≡ b
-    → IsStrict bytes_cmp (map module_name (cond b rest (p ∷ rest)))
+    → IsStrict by_bytes (map module_name (cond b rest (p ∷ rest)))
     × AboveName prev (map module_name (cond b rest (p ∷ rest)))
 heads-names-step None p rest low strict high true e = (strict, tt)
 heads-names-step None p rest low strict high false e =
-    (sorted-cons bytes_cmp (module_name p) (map module_name rest) strict high, tt)
+    (sorted-cons by_bytes (module_name p) (map module_name rest) strict high, tt)
 heads-names-step (Some m) p rest low strict high true e = (
   strict,
-  subst (λ n. list_all (λ k. is_lt (bytes_cmp n k)) (map module_name rest) ≡ true)
+  subst (λ n. list_all (λ k. is_lt (by_bytes n k)) (map module_name rest) ≡ true)
       (sym ((bytes_eq-Decides m (module_name p)).0 e)) high,
 )
 heads-names-step (Some m) p rest low strict high false e =
-    let lt : is_lt (bytes_cmp m (module_name p)) ≡ true
+    let lt : is_lt (by_bytes m (module_name p)) ≡ true
     = below-from_other bytes_total bytes_same m (module_name p) low
     (bytes_eq-other m (module_name p) e) in (
-      sorted-cons bytes_cmp (module_name p) (map module_name rest) strict high,
+      sorted-cons by_bytes (module_name p) (map module_name rest) strict high,
       and_from _ _ lt (above-later m (module_name p) (map module_name rest) lt high),
     )
 
 pub heads-names : (search : List (List ℕ)) (prev : Option (List ℕ)) (ps : List (List ℕ))
     → Ascends (λ x y. is_lt (full_cmp search x y)) ps → AllByRecursion (NotBelow prev) ps
-    → IsStrict bytes_cmp (map module_name (heads prev ps))
+    → IsStrict by_bytes (map module_name (heads prev ps))
     × AboveName prev (map module_name (heads prev ps))
 heads-names words None [] up low = (refl, tt)
 heads-names words (Some m) [] up low = (refl, refl)
@@ -321,20 +320,20 @@ heads-names words prev (p ∷ ps) up low =
     (is_name prev (module_name p)) refl
 
 names-all : (p : List ℕ) (ps : List (List ℕ)) → AllByRecursion (NotBelow (Some (module_name p))) ps
-    → AllByRecursion (λ k. is_lt (bytes_cmp k (module_name p)) ≡ false) (map module_name ps)
+    → AllByRecursion (λ k. is_lt (by_bytes k (module_name p)) ≡ false) (map module_name ps)
 names-all p [] all = tt
 names-all p (q ∷ ps) all = (all.0, names-all p ps all.1)
 
 -- a name that isn't below that of p, and isn't that of p, isn't the one before
 not_previous : (prev : Option (List ℕ)) (p n : List ℕ) → NotBelow prev p
-    → is_lt (bytes_cmp n (module_name p)) ≡ false → bytes_eq (module_name p) n ≡ false
+    → is_lt (by_bytes n (module_name p)) ≡ false → bytes_eq (module_name p) n ≡ false
     → is_name prev n ≡ false
 not_previous None p n low after other = refl
 not_previous (Some m) p n low after other = false_from_ne_true (bytes_eq m n) (λ is.
     let e : m ≡ n = (bytes_eq-Decides m n).0 is in
     bytes_eq-other (module_name p) n other
     (equal-from_both bytes_total bytes_same (module_name p) n
-    (subst (λ k. is_lt (bytes_cmp (module_name p) k) ≡ false) e low) after))
+    (subst (λ k. is_lt (by_bytes (module_name p) k) ≡ false) e low) after))
 
 swapped : (m n : List ℕ) (v : Bool) → bytes_eq m n ≡ v → bytes_eq n m ≡ v
 swapped m n true e = (bytes_eq-Decides n m).1 (sym ((bytes_eq-Decides m n).0 e))
@@ -380,12 +379,12 @@ names-has words prev (p ∷ ps) up low n =
           ))
           (swapped (module_name p) n false)
           (λ other there. not_previous prev p n low.0
-          (all-has (λ k. is_lt (bytes_cmp k (module_name p)) ≡ false) n (map module_name ps)
+          (all-has (λ k. is_lt (by_bytes k (module_name p)) ≡ false) n (map module_name ps)
           (names-all p ps after) there) other)
     ]
 
 none-there : (x : List ℕ) (xs : List (List ℕ))
-    → list_all (λ n. is_lt (bytes_cmp (module_name x) n)) (map module_name xs) ≡ true
+    → list_all (λ n. is_lt (by_bytes (module_name x) n)) (map module_name xs) ≡ true
     → count_by (bytes_eq x) xs ≡ 0
 none-there x [] low = refl
 none-there x (y ∷ ys) low =
@@ -394,13 +393,13 @@ none-there x (y ∷ ys) low =
     = false_from_ne_true (bytes_eq x y)
     (λ is. true≢false
     (sym p.0
-    ∙ ap (λ z. is_lt (bytes_cmp (module_name x) (module_name z)))
+    ∙ ap (λ z. is_lt (by_bytes (module_name x) (module_name z)))
     (sym ((bytes_eq-Decides x y).0 is))
     ∙ not_below_itself bytes_total (module_name x))) in
     sum_by-cons (λ z. cond (bytes_eq x z) 1 0) y ys
     ∙ (rw other (omega (arith, none-there x ys p.1)))
 
-once-strict : (xs : List (List ℕ)) → IsStrict bytes_cmp (map module_name xs) → (q : List ℕ)
+once-strict : (xs : List (List ℕ)) → IsStrict by_bytes (map module_name xs) → (q : List ℕ)
     → count_by (bytes_eq q) xs ≤ 1
 once-strict [] strict q = omega arith
 once-strict (x ∷ xs) strict q =
@@ -410,13 +409,13 @@ once-strict (x ∷ xs) strict q =
           let none : count_by (bytes_eq q) xs ≡ 0
           = ap (λ z. count_by (bytes_eq z) xs) ((bytes_eq-Decides q x).0 is)
           ∙ none-there x xs
-          (strict-low bytes_cmp (module_name x) (map module_name xs) strict) in
+          (strict-low by_bytes (module_name x) (map module_name xs) strict) in
           omega (arith, e, none, ap {B = ℕ} (λ b. cond b 1 0) is)
       | inr other ↦ omega (
         arith,
         e,
         ap {B = ℕ} (λ b. cond b 1 0) other,
-        once-strict xs (strict-rest bytes_cmp (module_name x) (map module_name xs) strict) q,
+        once-strict xs (strict-rest by_bytes (module_name x) (map module_name xs) strict) q,
       )
     ]
 

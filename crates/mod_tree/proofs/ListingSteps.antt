@@ -16,7 +16,7 @@ use Rattle.std.proofs.lemmas.List.Elements.{recursion_from_All}
 use Rattle.std.proofs.lemmas.List.Sorted.{ranks_by, IsPermutation-map, All-permutation}
 use Rattle.std.proofs.lemmas.List.Sorted.{list_any-IsPermutation, sum_by-IsPermutation}
 use Rattle.km_names.specs.Lines.{lines_of}
-use Rattle.mod_tree.specs.Order.{bytes_cmp}
+use Rattle.km_names.specs.Order.{by_bytes}
 use Rattle.mod_tree.specs.Places.{IsPlacesOf}
 use Rattle.mod_tree.specs.Tree.{listing_cmp, is_chosen, is_module_path, tree_paths, tree_of}
 use Rattle.mod_tree.specs.Tree.{tree_unless, bad_path, name_count}
@@ -30,7 +30,7 @@ use Rattle.mod_tree.proofs.Ascending.{in_order-is, any-eq}
 use Rattle.mod_tree.proofs.Heads.{bytes_same}
 
 abbrev pub place_cmp : Listing → Listing → Ordering
-place_cmp c d = ordering_then (nat_cmp c.place d.place) (bytes_cmp c.path.now d.path.now)
+place_cmp c d = ordering_then (nat_cmp c.place d.place) (by_bytes c.path.now d.path.now)
 
 place_total : IsTotalOrder place_cmp
 place_total =
@@ -51,12 +51,12 @@ listing_same lines p q e =
     bytes_same p q
     (then-equal
     (nat_cmp (position_or_len (bytes_eq p) lines) (position_or_len (bytes_eq q) lines))
-    (bytes_cmp p q) e)
+    (by_bytes p q) e)
 
 same-order : (lines : List (List ℕ)) (x y : Listing) → IsListing lines x → IsListing lines y
     → is_lt (listing_cmp lines (listed_path y) (listed_path x)) ≡ is_lt (place_cmp y x)
 same-order lines x y a b =
-    let z = bytes_cmp y.path.now x.path.now in
+    let z = by_bytes y.path.now x.path.now in
     sym (ap (λ n. is_lt (ordering_then (nat_cmp n x.place) z)) b.place
     ∙ ap (λ n. is_lt
     (ordering_then (nat_cmp (position_or_len (bytes_eq y.path.now) lines) n) z))

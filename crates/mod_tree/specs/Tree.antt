@@ -7,7 +7,8 @@ use Rattle.std.specs.List.{list_any, ends_with, starts_with, position_or_len}
 use Rattle.std.specs.Str.{bytes_eq}
 use Rattle.std.specs.Ordering.{nat_cmp, ordering_then, is_lt}
 use Rattle.std.specs.declared.cmp.Ordering.{Ordering}
-use Rattle.mod_tree.specs.Order.{bytes_cmp, in_order}
+use Rattle.km_names.specs.Order.{by_bytes}
+use Rattle.mod_tree.specs.Order.{in_order}
 use Rattle.km_names.specs.Path.{module_name, is_compressed}
 use Rattle.km_names.specs.Lines.{lines_of}
 use Rattle.mod_tree.specs.declared.tree.TreeFault.{TreeFault}
@@ -37,7 +38,7 @@ rank search path =
 
 -- Paths of one name in the order of choice: by rank, and then by bytes.
 abbrev pub choice_cmp : List (List ℕ) → List ℕ → List ℕ → Ordering
-choice_cmp search p q = ordering_then (nat_cmp (rank search p) (rank search q)) (bytes_cmp p q)
+choice_cmp search p q = ordering_then (nat_cmp (rank search p) (rank search q)) (by_bytes p q)
 
 -- Whether a path is chosen among paths: none with its module name comes before it in the order of
 -- choice.
@@ -52,7 +53,7 @@ abbrev pub listing_cmp : List (List ℕ) → List ℕ → List ℕ → Ordering
 listing_cmp lines p q =
     ordering_then
     (nat_cmp (position_or_len (bytes_eq p) lines) (position_or_len (bytes_eq q) lines))
-    (bytes_cmp p q)
+    (by_bytes p q)
 
 -- The chosen ones among paths of modules, each once, in the order of the tree.
 unfoldable pub tree_paths : List (List ℕ) → List (List ℕ) → List (List ℕ) → List (List ℕ)
@@ -60,12 +61,12 @@ tree_paths search lines paths = in_order (listing_cmp lines) (filter (is_chosen 
 
 -- The number of module names of the paths.
 unfoldable pub name_count : List (List ℕ) → ℕ
-name_count paths = length (in_order bytes_cmp (map module_name paths))
+name_count paths = length (in_order by_bytes (map module_name paths))
 
 -- The lesser by bytes of a path and an optional other one.
 abbrev pub lesser : List ℕ → Option (List ℕ) → Option (List ℕ)
 lesser p None = Some p
-lesser p (Some q) = if is_lt (bytes_cmp p q) then Some p else Some q
+lesser p (Some q) = if is_lt (by_bytes p q) then Some p else Some q
 
 -- The least of some paths by bytes.
 abbrev pub least : List (List ℕ) → Option (List ℕ)

@@ -1,9 +1,9 @@
 -- What the symbols of an object file state of names. The kernel's EXPORT_SYMBOL writes a symbol
 -- `__ksymtab_N` for the export N (include/linux/export.h), `__crc_N` for its version, and
 -- `__kstrtabns_N` for its namespace.
-use Rattle.std.specs.Prelude.{ℕ, ◌==◌, ◌&&◌, ◌||◌, nat_eq, not, Bool, List, length, drop, map}
+use Rattle.std.specs.Prelude.{ℕ, ◌==◌, ◌&&◌, ◌||◌, not, Bool, List, map}
 use Rattle.std.specs.Prelude.{codes, slice_get, Option, Some, None, option_and_then, if◌then◌else◌}
-use Rattle.std.specs.List.{starts_with}
+use Rattle.km_names.specs.Prefix.{rest_after}
 use Rattle.elf_format.specs.declared.symbol.TheConstants.{SHN_UNDEF, STB_GLOBAL, STB_WEAK}
 use Rattle.elf_object.specs.declared.symbol.Symbol.{Symbol}
 use Rattle.elf_object.specs.Object.{FileObject}
@@ -15,14 +15,9 @@ use Rattle.module_symbols.specs.declared.role.Role.TheVariants.{Export, Version,
 abbrev pub is_defined : Symbol → Bool
 is_defined s = not (s.section == SHN_UNDEF)
 
--- The rest of a name after a prefix, if the name begins with it.
-abbrev pub after_prefix : List ℕ → List ℕ → Option (List ℕ)
-after_prefix prefix name =
-    if starts_with nat_eq name prefix then Some (drop (length prefix) name) else None
-
 -- The name after a prefix in the name of a defined symbol.
 abbrev pub name_after : List ℕ → Symbol → Option (List ℕ)
-name_after prefix s = if is_defined s then after_prefix prefix s.name else None
+name_after prefix s = if is_defined s then rest_after prefix s.name else None
 
 -- The name that other files can use for the symbol: its own if it is defined, and global or weak.
 abbrev pub defined_name : Symbol → Option (List ℕ)

@@ -2,7 +2,8 @@
 
 ghost use Rattle.std.specs.Prelude.{◌≡◌, option_copied};
 ghost use Rattle.elf_object.specs.Symbols.{owned_symbol};
-ghost use Rattle.module_symbols.specs.Roles.{after_prefix, stated_name};
+ghost use Rattle.km_names.specs.Prefix.{rest_after};
+ghost use Rattle.module_symbols.specs.Roles.{stated_name};
 
 use elf_format::{SHN_UNDEF, STB_GLOBAL, STB_WEAK};
 use elf_object::SymbolRef;
@@ -30,9 +31,9 @@ pub(crate) fn stated_name<'a>(role: Role, symbol: SymbolRef<'a>) -> Option<&'a [
         return None;
     }
     match role {
-        Role::Export => after_prefix(b"__ksymtab_", symbol.name),
-        Role::Version => after_prefix(b"__crc_", symbol.name),
-        Role::Space => after_prefix(b"__kstrtabns_", symbol.name),
+        Role::Export => rest_after(b"__ksymtab_", symbol.name),
+        Role::Version => rest_after(b"__crc_", symbol.name),
+        Role::Space => rest_after(b"__kstrtabns_", symbol.name),
         Role::Definition => {
             if symbol.binding == STB_GLOBAL || symbol.binding == STB_WEAK {
                 Some(symbol.name)
@@ -45,8 +46,8 @@ pub(crate) fn stated_name<'a>(role: Role, symbol: SymbolRef<'a>) -> Option<&'a [
 
 /// Returns the rest of a name after a prefix, if the name begins with it.
 #[inline(always)]
-fn after_prefix<'a>(prefix: &[u8], name: &'a [u8]) -> Option<&'a [u8]>
-    ensures { option_copied result ≡ after_prefix prefix.now name.now }
+fn rest_after<'a>(prefix: &[u8], name: &'a [u8]) -> Option<&'a [u8]>
+    ensures { option_copied result ≡ rest_after prefix.now name.now }
 {
     // Most names differ from the prefix in their first byte, and are skipped at once.
     if let (Some(first), Some(wanted)) = (name.first(), prefix.first()) {
