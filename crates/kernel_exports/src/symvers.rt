@@ -1,10 +1,10 @@
 // The lines of a Module.symvers.
 ghost use Rattle.std.specs.Prelude.{◌≡◌, codes};
 ghost use Rattle.std.specs.Str.{bytes_eq};
-ghost use Rattle.kernel_exports.specs.SymversLines.{version, field};
+ghost use Rattle.kernel_exports.specs.SymversLines.{field};
 
 use crate::lines::TableLine;
-use km_names::{hexadecimal, is_graphic, split_at_byte};
+use km_names::{is_graphic, prefixed_hexadecimal, split_at_byte};
 use std::marker::Model;
 
 /// What a line of a Module.symvers states.
@@ -24,18 +24,6 @@ impl<'a> Model for SymversLine<'a> {
 
     ghost view = { λ l. record
         { crc = l.crc; name = l.name.now; owner = l.owner.now; gpl = l.gpl; space = l.space.now } };
-}
-
-/// Reads the version that a field states.
-#[tactic(auto, unfolding(crate::specs::SymversLines::version))]
-fn version(field: &[u8]) -> Option<u64>
-    ensures { result ≡ version field.now }
-{
-    if field.starts_with(b"0x") {
-        hexadecimal(&field[2..])
-    } else {
-        None
-    }
 }
 
 /// The first five fields of a line.
@@ -80,7 +68,7 @@ impl<'a> TableLine<'a> for SymversLine<'a> {
         if !is_graphic(fields.name) || !is_graphic(fields.owner) {
             return None;
         }
-        match version(fields.crc) {
+        match prefixed_hexadecimal(fields.crc) {
             Some(crc) => Some(SymversLine {
                 crc,
                 name: fields.name,

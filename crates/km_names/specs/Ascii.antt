@@ -1,7 +1,7 @@
 -- Texts in ASCII: words of visible characters, and numbers in hexadecimal digits.
 use Rattle.std.specs.Prelude.{ℕ, List, Bool, not, ◌&&◌, ◌==◌, nat_le, length, if◌then◌else◌, Option}
-use Rattle.std.specs.Prelude.{Some, None}
-use Rattle.std.specs.List.{list_all}
+use Rattle.std.specs.Prelude.{Some, None, nat_eq, codes, drop}
+use Rattle.std.specs.List.{list_all, starts_with}
 use Rattle.std.specs.Char.{is_ascii_graphic, is_digit}
 use Rattle.std.specs.Str.Parse.{digits_value}
 
@@ -16,3 +16,8 @@ unfoldable pub hexadecimal : List ℕ → Option ℕ
 hexadecimal text =
     if not (length text == 0) && nat_le (length text) 16 && list_all (λ b. is_digit b 16) text
     then Some (digits_value 16 text) else None
+
+-- The number that a text states as `0x` and 1 to 16 hexadecimal digits.
+unfoldable pub prefixed_hexadecimal : List ℕ → Option ℕ
+prefixed_hexadecimal text =
+    if starts_with nat_eq text (codes "0x") then hexadecimal (drop 2 text) else None

@@ -3,7 +3,7 @@ ghost use Rattle.std.specs.Prelude.{◌≡◌, ◌≤◌, length, IsTrue};
 ghost use Rattle.std.specs.List.{list_all};
 ghost use Rattle.std.specs.Char.{is_ascii_graphic, is_digit, digit_value};
 ghost use Rattle.std.specs.Str.Parse.{digits_value};
-ghost use Rattle.km_names.specs.Ascii.{is_graphic, hexadecimal};
+ghost use Rattle.km_names.specs.Ascii.{is_graphic, hexadecimal, prefixed_hexadecimal};
 
 /// Returns whether the text is a word of visible characters: it isn't empty, and each of its bytes
 /// is one of 33 to 126. isgraph(3).
@@ -25,6 +25,19 @@ pub fn hexadecimal(text: &[u8]) -> Option<u64>
         return None;
     }
     Some(digits_value(text))
+}
+
+/// Returns the number that the text states as `0x` and 1 to 16 hexadecimal digits. The result is
+/// `None` exactly if the text isn't such a number.
+#[tactic(auto, unfolding(crate::specs::Ascii::prefixed_hexadecimal))]
+pub fn prefixed_hexadecimal(text: &[u8]) -> Option<u64>
+    ensures { result ≡ prefixed_hexadecimal text.now }
+{
+    if text.starts_with(b"0x") {
+        hexadecimal(&text[2..])
+    } else {
+        None
+    }
 }
 
 fn are_graphic(text: &[u8]) -> bool

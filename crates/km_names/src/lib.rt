@@ -24,7 +24,7 @@ mod texts;
 mod word;
 
 pub use alias::{normal_alias, normal_or_itself};
-pub use ascii::{hexadecimal, is_graphic};
+pub use ascii::{hexadecimal, is_graphic, prefixed_hexadecimal};
 pub use bytes::{Alias, AliasKind, Blob, BlobKind, Bytes, Name, NameKind, PathKind, PathText};
 pub use conf::{ConfFault, ConfFile, ConfFiles, Line, Lines, TreeIndex};
 pub use limit::FILE_LIMIT;

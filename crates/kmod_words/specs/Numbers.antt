@@ -1,10 +1,10 @@
 -- Numbers as words state them: decimal numbers, and a region of addresses.
-use Rattle.std.specs.Prelude.{ℕ, ◌^◌, ◌==◌, ◌&&◌, List, not, Option, Some, None, length, drop}
-use Rattle.std.specs.Prelude.{nat_eq, nat_le, nat_lt, if◌then◌else◌, option_and_then, codes}
-use Rattle.std.specs.List.{list_all, before_first, after_first, starts_with}
+use Rattle.std.specs.Prelude.{ℕ, ◌^◌, ◌==◌, ◌&&◌, List, not, Option, Some, None, length}
+use Rattle.std.specs.Prelude.{nat_le, nat_lt, if◌then◌else◌, option_and_then}
+use Rattle.std.specs.List.{list_all, before_first, after_first}
 use Rattle.std.specs.Char.{is_digit}
 use Rattle.std.specs.Str.Parse.{digits_value}
-use Rattle.km_names.specs.Ascii.{hexadecimal}
+use Rattle.km_names.specs.Ascii.{prefixed_hexadecimal}
 use Rattle.module_region.specs.declared.region.Region.{Region}
 use Rattle.module_region.specs.RegionAt.{region_at}
 
@@ -16,11 +16,6 @@ decimal most text =
     && list_all (λ b. is_digit b 10) text
     && nat_lt (digits_value 10 text) (2 ^ 64)
     then Some (digits_value 10 text) else None
-
--- The number that a text states as `0x` and 1 to 16 hexadecimal digits.
-unfoldable pub prefixed_hexadecimal : List ℕ → Option ℕ
-prefixed_hexadecimal text =
-    if starts_with nat_eq text (codes "0x") then hexadecimal (drop 2 text) else None
 
 -- The region that a text states as `BASE:SIZE`.
 unfoldable pub region_of : List ℕ → Option Region

@@ -1,8 +1,8 @@
 // A region of addresses in which modules are placed.
 ghost use Rattle.std.specs.Prelude.{◌≡◌, option_map};
-ghost use Rattle.kmod_words.specs.Numbers.{region_of, region_or_usual, prefixed_hexadecimal};
+ghost use Rattle.kmod_words.specs.Numbers.{region_of, region_or_usual};
 
-use km_names::{hexadecimal, split_at_byte};
+use km_names::{prefixed_hexadecimal, split_at_byte};
 use module_region::Region;
 
 /// Returns the region that a text states, or the usual one if there is no text.
@@ -24,16 +24,4 @@ fn region_of(text: &[u8]) -> Option<Region>
     let base = prefixed_hexadecimal(base)?;
     let size = prefixed_hexadecimal(size)?;
     Region::new(base, size)
-}
-
-/// Returns the number of a text of `0x` and hexadecimal digits.
-#[tactic(auto, unfolding(crate::specs::Numbers::prefixed_hexadecimal))]
-fn prefixed_hexadecimal(text: &[u8]) -> Option<u64>
-    ensures { result ≡ prefixed_hexadecimal text.now }
-{
-    if text.starts_with(b"0x") {
-        hexadecimal(&text[2..])
-    } else {
-        None
-    }
 }

@@ -140,7 +140,7 @@ unfolding lib.Count.ones km_names_aliasform.normal_alias km_names_ascii.is_graph
     kernel_exports_kerneltable.exports_of_symvers kernel_exports_kerneltable.exports_with_addresses
     provider_rel_kinds.line_if kernel_exports_maplines.map_line provider_rel_relation.dependencies
     provider_rel_relation.relation_fault provider_rel_seen.provider_by provider_rel_seen.closures_by
-    provider_rel_seen.obstacles_by kernel_exports_symverslines.version
+    provider_rel_seen.obstacles_by km_names_ascii.prefixed_hexadecimal
     kernel_exports_symverslines.symvers_line kernel_exports_tablelines.refused_line
     kernel_exports_tablelines.stated depmod_core_builtin.built_in_names
     depmod_core_builtin.built_in_map depmod_core_dependencies.dep_text
