@@ -1,11 +1,11 @@
 -- The lines of a System.map, which the kernel's build writes with nm(1): `ADDRESS LETTER NAME`.
 use Rattle.std.specs.Prelude.{ℕ, ◌==◌, ◌&&◌, Bool, List, length, map, find, slice_index, Option}
 use Rattle.std.specs.Prelude.{Some, None, option_map, if◌then◌else◌}
-use Rattle.std.specs.List.{before_first, after_first}
 use Rattle.std.specs.Option.{option_or}
 use Rattle.std.specs.Char.{is_ascii_uppercase}
 use Rattle.std.specs.Str.{bytes_eq}
 use Rattle.km_names.specs.Ascii.{is_graphic, hexadecimal}
+use Rattle.km_names.specs.Space.{before_space, past_space}
 use Rattle.name_table.specs.NameTable.{Table, IsTableOf}
 
 -- A symbol that a line states: its address, the letter of its kind, and its name.
@@ -14,23 +14,16 @@ pub record MapSymbol : Type 0 where
   pub letter : ℕ
   pub name : List ℕ
 
--- The bytes before the first space, and the bytes after it.
-abbrev pub front : List ℕ → List ℕ
-front text = before_first (λ b. b == 32) text
-
-abbrev pub rest : List ℕ → List ℕ
-rest text = after_first (λ b. b == 32) text
-
 -- What a line states, if it is understood: a number of 1 to 16 hexadecimal digits, one visible
 -- character and a word of visible characters, with one space between them.
 unfoldable pub map_line : List ℕ → Option MapSymbol
 map_line text =
-    let kind = front (rest text) in
-    let name = rest (rest text) in
+    let kind = before_space (past_space text) in
+    let name = past_space (past_space text) in
     if length kind == 1 && is_graphic kind && is_graphic name
     then option_map
     (λ address. record { address = address; letter = slice_index kind 0; name = name })
-    (hexadecimal (front text))
+    (hexadecimal (before_space text))
     else None
 
 -- Whether the symbol is global: its letter is A to Z. nm(1).

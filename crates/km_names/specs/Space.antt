@@ -1,7 +1,7 @@
 -- White space in the lines of configuration files: space, tab and carriage return. modprobe.d(5),
 -- depmod.d(5).
 use Rattle.std.specs.Prelude.{ℕ, ◌-◌, List, [], ◌∷◌, Bool, ◌||◌, ◌==◌, length, take, drop}
-use Rattle.std.specs.List.{before_first, prefix_len, suffix_len, slice_split}
+use Rattle.std.specs.List.{before_first, after_first, prefix_len, suffix_len, slice_split}
 
 -- Whether a byte is white space.
 abbrev pub is_space : ℕ → Bool
@@ -26,6 +26,13 @@ first_word text = before_first is_space text
 -- The rest of a text: what follows its first word, without white space at either end.
 unfoldable pub rest_after_word : List ℕ → List ℕ
 rest_after_word text = trimmed (drop (length (first_word text)) text)
+
+-- The bytes before the first space of a text, and the bytes after it.
+abbrev pub before_space : List ℕ → List ℕ
+before_space text = before_first (λ b. b == 32) text
+
+abbrev pub past_space : List ℕ → List ℕ
+past_space text = after_first (λ b. b == 32) text
 
 -- The pieces that aren't empty.
 abbrev pub nonempty : List (List ℕ) → List (List ℕ)

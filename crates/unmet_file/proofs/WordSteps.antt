@@ -8,7 +8,8 @@ use Rattle.std.specs.Char.{is_ascii_graphic}
 use Rattle.std.proofs.Math.Seq.{take-append_seam, drop-append-add}
 use Rattle.std.proofs.lemmas.Bool.{eqb-true}
 use Rattle.km_names.specs.Ascii.{is_graphic}
-use Rattle.unmet_file.specs.Line.{front, rest, two_words, three_words, three_text}
+use Rattle.km_names.specs.Space.{before_space, past_space}
+use Rattle.unmet_file.specs.Line.{two_words, three_words, three_text}
 
 pub both_hold : (a b : Bool) → (a && b) ≡ true → (a ≡ true) × (b ≡ true)
 both_hold true b h = (refl, h)
@@ -47,13 +48,13 @@ seam (b ∷ bs) others h =
 
 -- a word before a space
 pub front-word : (word others : List ℕ) → is_graphic word ≡ true
-    → front (word ++ 32 ∷ others) ≡ word
+    → before_space (word ++ 32 ∷ others) ≡ word
 front-word word others h =
     ap (λ n. take n (word ++ 32 ∷ others)) (seam word others (graphic-all word h))
     ∙ take-append_seam word (32 ∷ others)
 
 pub rest-word : (word others : List ℕ) → is_graphic word ≡ true
-    → rest (word ++ 32 ∷ others) ≡ others
+    → past_space (word ++ 32 ∷ others) ≡ others
 rest-word word others h =
     ap (λ n. drop (n + 1) (word ++ 32 ∷ others)) (seam word others (graphic-all word h))
     ∙ drop-append-add word (32 ∷ others) 1
@@ -72,7 +73,8 @@ three-back a b c h k l =
     (ap (option_map (λ w. (a, w.0, w.1))) (two-back b c k l))
 
 -- a text whose rest isn't empty is its two parts with a space between
-more_joined : (b : ℕ) (bs : List ℕ) → (0 < length (rest bs) → front bs ++ 32 ∷ rest bs ≡ bs)
+more_joined : (b : ℕ) (bs : List ℕ)
+    → (0 < length (past_space bs) → before_space bs ++ 32 ∷ past_space bs ≡ bs)
     → (v : Bool) → eqb b 32 ≡ v
     → 0 < length (drop (cond (not v) (1 + position_or_len (λ c. eqb c 32) bs) 0 + 1) (b ∷ bs))
     → take (cond (not v) (1 + position_or_len (λ c. eqb c 32) bs) 0) (b ∷ bs) ++ 32
@@ -83,12 +85,13 @@ more_joined b bs later false is some =
     let n = position_or_len (λ c. eqb c 32) bs in
     let e : 1 + n ≡ suc n = omega arith in
     let f : 1 + n + 1 ≡ suc (n + 1) = omega arith in
-    let others : 0 < length (rest bs) = subst (λ k. 0 < length (drop k (b ∷ bs))) f some in
+    let others : 0 < length (past_space bs) = subst (λ k. 0 < length (drop k (b ∷ bs))) f some in
     ap (λ k. take k (b ∷ bs) ++ 32 ∷ drop (1 + n + 1) (b ∷ bs)) e
-    ∙ ap (λ k. b ∷ (front bs ++ 32 ∷ drop k (b ∷ bs))) f
+    ∙ ap (λ k. b ∷ (before_space bs ++ 32 ∷ drop k (b ∷ bs))) f
     ∙ ap (λ xs. b ∷ xs) (later others)
 
-pub joined : (text : List ℕ) → 0 < length (rest text) → front text ++ 32 ∷ rest text ≡ text
+pub joined : (text : List ℕ) → 0 < length (past_space text)
+    → before_space text ++ 32 ∷ past_space text ≡ text
 joined [] h = absurd (omega arith)
 joined (b ∷ bs) h = more_joined b bs (joined bs) (eqb b 32) refl h
 
@@ -105,32 +108,34 @@ pub record AreThree (text : List ℕ) (w : List ℕ × List ℕ × List ℕ) : T
   pub third : is_graphic w.2 ≡ true
 
 pub two-written : (text : List ℕ) (w : List ℕ × List ℕ) → two_words text ≡ Some w → AreTwo text w
-two-written text w h = go (is_graphic (front text)) (is_graphic (rest text)) refl refl h
+two-written text w h = go (is_graphic (before_space text))
+    (is_graphic (past_space text)) refl refl h
   where
-    go : (a b : Bool) → is_graphic (front text) ≡ a → is_graphic (rest text) ≡ b
-        → cond (a && b) (Some (front text, rest text)) None ≡ Some w → AreTwo text w
+    go : (a b : Bool) → is_graphic (before_space text) ≡ a → is_graphic (past_space text) ≡ b
+        → cond (a && b) (Some (before_space text, past_space text)) None ≡ Some w → AreTwo text w
     go true true e f is =
-        let p : (let q : List ℕ × List ℕ = (front text, rest text) in q) ≡ w = cc in
+        let p : (let q : List ℕ × List ℕ = (before_space text, past_space text) in q) ≡ w = cc in
         subst (AreTwo text) p
-        (record { text_is = joined text (graphic-some (rest text) f); first = e; second = f })
+        (record { text_is = joined text (graphic-some (past_space text) f); first = e; second = f })
     go true false e f is = absurd (cc)
     go false b e f is = absurd (cc)
 
 pub three-written : (text : List ℕ) (w : List ℕ × List ℕ × List ℕ) → three_words text ≡ Some w
     → AreThree text w
-three-written text w h = go (is_graphic (front text)) (two_words (rest text)) refl refl h
+three-written text w h = go (is_graphic (before_space text))
+    (two_words (past_space text)) refl refl h
   where
-    go : (a : Bool) (o : Option (List ℕ × List ℕ)) → is_graphic (front text) ≡ a
-        → two_words (rest text) ≡ o
-        → cond a (option_map (λ v. (front text, v.0, v.1)) o) None ≡ Some w → AreThree text w
+    go : (a : Bool) (o : Option (List ℕ × List ℕ)) → is_graphic (before_space text) ≡ a
+        → two_words (past_space text) ≡ o
+        → cond a (option_map (λ v. (before_space text, v.0, v.1)) o) None ≡ Some w → AreThree text w
     go true (Some v) e f is =
-        let p : (let q : List ℕ × List ℕ × List ℕ = (front text, v.0, v.1) in q) ≡ w = cc in
-        let two = two-written (rest text) v f in
-        let some : 0 < length (rest text)
+        let p : (let q : List ℕ × List ℕ × List ℕ = (before_space text, v.0, v.1) in q) ≡ w = cc in
+        let two = two-written (past_space text) v f in
+        let some : 0 < length (past_space text)
         = subst (λ xs. 0 < length xs) two.text_is (omega (arith, length-append v.0 (32 ∷ v.1)))
         in
         subst (AreThree text) p (record {
-          text_is = ap (λ xs. front text ++ 32 ∷ xs) two.text_is ∙ joined text some;
+          text_is = ap (λ xs. before_space text ++ 32 ∷ xs) two.text_is ∙ joined text some;
           first = e;
           second = two.first;
           third = two.second;

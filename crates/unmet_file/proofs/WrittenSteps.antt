@@ -12,7 +12,8 @@ use Rattle.km_names.specs.Lines.{lines_of}
 use Rattle.symbol_binding.specs.declared.unbound.Unbound.{Unbound}
 use Rattle.symbol_binding.specs.declared.unbound.Unbound.TheVariants.{Missing, Gpl, Version}
 use Rattle.symbol_binding.specs.declared.unbound.Unbound.TheVariants.{Namespace, Double}
-use Rattle.unmet_file.specs.Line.{front, rest, two_words, three_words, three_text, line_text}
+use Rattle.km_names.specs.Space.{before_space, past_space}
+use Rattle.unmet_file.specs.Line.{two_words, three_words, three_text, line_text}
 use Rattle.unmet_file.specs.Line.{is_line, unmet_line}
 use Rattle.unmet_file.specs.Unmet.{file_text, stated_lines, AreReadBack, IsReadAsWritten}
 use Rattle.unmet_file.proofs.WordSteps.{both_hold, two-back, three-back, joined, two-written}
@@ -112,11 +113,12 @@ all-back file lines h =
     (sym (place-begins file (file_text lines)) ∙ none-bad file 1 lines h) (stated-back lines h)
 
 -- the first word of a line, before the others
-named-first : (text name others : List ℕ) → bytes_eq (front text) name ≡ true → others ≡ rest text
-    → 0 < length (rest text) → name ++ 32 ∷ others ≡ text
+named-first : (text name others : List ℕ) → bytes_eq (before_space text) name ≡ true
+    → others ≡ past_space text
+    → 0 < length (past_space text) → name ++ 32 ∷ others ≡ text
 named-first text name others is are some =
-    ap (λ xs. xs ++ 32 ∷ others) (sym ((bytes_eq-Decides (front text) name).0 is))
-    ∙ ap (λ xs. front text ++ 32 ∷ xs) are
+    ap (λ xs. xs ++ 32 ∷ others) (sym ((bytes_eq-Decides (before_space text) name).0 is))
+    ∙ ap (λ xs. before_space text ++ 32 ∷ xs) are
     ∙ joined text some
 
 some-text : (a b text : List ℕ) → a ++ 32 ∷ b ≡ text → 0 < length text
@@ -124,49 +126,49 @@ some-text a b text is = subst (λ xs. 0 < length xs) is (omega (arith, length-ap
 
 -- a line of two names, and one of three
 of-two : (text name : List ℕ) (make : List ℕ → List ℕ → Unbound) (line : Unbound)
-    → bytes_eq (front text) name ≡ true
-    → option_map (λ w. make w.0 w.1) (two_words (rest text)) ≡ Some line
+    → bytes_eq (before_space text) name ≡ true
+    → option_map (λ w. make w.0 w.1) (two_words (past_space text)) ≡ Some line
     → (w : List ℕ × List ℕ) × (make w.0 w.1 ≡ line)
     × (name ++ 32 ∷ (w.0 ++ (codes " " ++ w.1)) ≡ text) × (is_graphic w.0 ≡ true)
     × (is_graphic w.1 ≡ true)
-of-two text name make line is stated = go (two_words (rest text)) refl stated
+of-two text name make line is stated = go (two_words (past_space text)) refl stated
   where
-    go : (o : Option (List ℕ × List ℕ)) → two_words (rest text) ≡ o
+    go : (o : Option (List ℕ × List ℕ)) → two_words (past_space text) ≡ o
         → option_map (λ w. make w.0 w.1) o ≡ Some line
         → (w : List ℕ × List ℕ) × (make w.0 w.1 ≡ line)
         × (name ++ 32 ∷ (w.0 ++ (codes " " ++ w.1)) ≡ text) × (is_graphic w.0 ≡ true)
         × (is_graphic w.1 ≡ true)
     go None e h = absurd (cc)
     go (Some w) e h =
-        let two = two-written (rest text) w e in (
+        let two = two-written (past_space text) w e in (
           w,
           cc,
           named-first text name (w.0 ++ (codes " " ++ w.1)) is two.text_is
-              (some-text w.0 w.1 (rest text) two.text_is),
+              (some-text w.0 w.1 (past_space text) two.text_is),
           two.first,
           two.second,
         )
 
 of-three : (text name : List ℕ) (make : List ℕ → List ℕ → List ℕ → Unbound) (line : Unbound)
-    → bytes_eq (front text) name ≡ true
-    → option_map (λ w. make w.0 w.1 w.2) (three_words (rest text)) ≡ Some line
+    → bytes_eq (before_space text) name ≡ true
+    → option_map (λ w. make w.0 w.1 w.2) (three_words (past_space text)) ≡ Some line
     → (w : List ℕ × List ℕ × List ℕ) × (make w.0 w.1 w.2 ≡ line)
     × (name ++ 32 ∷ three_text w.0 w.1 w.2 ≡ text) × (is_graphic w.0 ≡ true)
     × (is_graphic w.1 ≡ true) × (is_graphic w.2 ≡ true)
-of-three text name make line is stated = go (three_words (rest text)) refl stated
+of-three text name make line is stated = go (three_words (past_space text)) refl stated
   where
-    go : (o : Option (List ℕ × List ℕ × List ℕ)) → three_words (rest text) ≡ o
+    go : (o : Option (List ℕ × List ℕ × List ℕ)) → three_words (past_space text) ≡ o
         → option_map (λ w. make w.0 w.1 w.2) o ≡ Some line
         → (w : List ℕ × List ℕ × List ℕ) × (make w.0 w.1 w.2 ≡ line)
         × (name ++ 32 ∷ three_text w.0 w.1 w.2 ≡ text) × (is_graphic w.0 ≡ true)
         × (is_graphic w.1 ≡ true) × (is_graphic w.2 ≡ true)
     go None e h = absurd (cc)
     go (Some w) e h =
-        let three = three-written (rest text) w e in (
+        let three = three-written (past_space text) w e in (
           w,
           cc,
           named-first text name (three_text w.0 w.1 w.2) is three.text_is
-              (some-text w.0 (w.1 ++ (codes " " ++ w.2)) (rest text) three.text_is),
+              (some-text w.0 (w.1 ++ (codes " " ++ w.2)) (past_space text) three.text_is),
           three.first,
           three.second,
           three.third,
@@ -187,19 +189,22 @@ three-shown a b c h k l = rw (h, k, l) refl
 pub as-written : IsReadAsWritten
 unfolding unmet_line line_text is_line
 as-written text line h =
-    go (bytes_eq (front text) (codes "missing")) (bytes_eq (front text) (codes "gpl"))
-    (bytes_eq (front text) (codes "version"))
-    (bytes_eq (front text) (codes "namespace")) (bytes_eq (front text) (codes "double")) refl refl
+    go (bytes_eq (before_space text) (codes "missing")) (bytes_eq (before_space text) (codes "gpl"))
+    (bytes_eq (before_space text) (codes "version"))
+    (bytes_eq (before_space text) (codes "namespace"))
+    (bytes_eq (before_space text) (codes "double")) refl refl
     refl refl refl h
   where
-    go : (a b c d e : Bool) → bytes_eq (front text) (codes "missing") ≡ a
-        → bytes_eq (front text) (codes "gpl") ≡ b → bytes_eq (front text) (codes "version") ≡ c
-        → bytes_eq (front text) (codes "namespace") ≡ d → bytes_eq (front text) (codes "double") ≡ e
-        → (if a then option_map (λ w. Missing w.0 w.1) (two_words (rest text))
-        else if b then option_map (λ w. Gpl w.0 w.1 w.2) (three_words (rest text))
-        else if c then option_map (λ w. Version w.0 w.1 w.2) (three_words (rest text))
-        else if d then option_map (λ w. Namespace w.0 w.1 w.2) (three_words (rest text))
-        else if e then option_map (λ w. Double w.0 w.1 w.2) (three_words (rest text))
+    go : (a b c d e : Bool) → bytes_eq (before_space text) (codes "missing") ≡ a
+        → bytes_eq (before_space text) (codes "gpl") ≡ b
+        → bytes_eq (before_space text) (codes "version") ≡ c
+        → bytes_eq (before_space text) (codes "namespace") ≡ d
+        → bytes_eq (before_space text) (codes "double") ≡ e
+        → (if a then option_map (λ w. Missing w.0 w.1) (two_words (past_space text))
+        else if b then option_map (λ w. Gpl w.0 w.1 w.2) (three_words (past_space text))
+        else if c then option_map (λ w. Version w.0 w.1 w.2) (three_words (past_space text))
+        else if d then option_map (λ w. Namespace w.0 w.1 w.2) (three_words (past_space text))
+        else if e then option_map (λ w. Double w.0 w.1 w.2) (three_words (past_space text))
         else None) ≡ Some line → WasWritten text line
     go true b c d e p q r s t is =
         let w = of-two text (codes "missing") Missing line p is in

@@ -1,10 +1,11 @@
 -- The lines of modules.unmet: what each states, and how it is written. This file of depmod is this
 -- project's own. depmod(8) warns of missing symbols and other versions with `-e`.
-use Rattle.std.specs.Prelude.{ℕ, ◌==◌, ◌&&◌, Bool, List, [], ◌∷◌, ◌++◌, codes, Option, Some, None}
+use Rattle.std.specs.Prelude.{ℕ, ◌&&◌, Bool, List, [], ◌∷◌, ◌++◌, codes, Option, Some, None}
 use Rattle.std.specs.Prelude.{option_map, if◌then◌else◌}
-use Rattle.std.specs.List.{list_all, before_first, after_first}
+use Rattle.std.specs.List.{list_all}
 use Rattle.std.specs.Str.{bytes_eq}
 use Rattle.km_names.specs.Ascii.{is_graphic}
+use Rattle.km_names.specs.Space.{before_space, past_space}
 use Rattle.symbol_binding.specs.declared.unbound.Unbound.{Unbound}
 use Rattle.symbol_binding.specs.declared.unbound.Unbound.TheVariants.{Missing, Gpl, Version}
 use Rattle.symbol_binding.specs.declared.unbound.Unbound.TheVariants.{Namespace, Double}
@@ -51,37 +52,30 @@ names_in (Double symbol first second) = symbol ∷ first ∷ second ∷ []
 unfoldable pub is_line : Unbound → Bool
 is_line line = list_all is_graphic (names_in line)
 
--- The bytes before the first space of a text.
-abbrev pub front : List ℕ → List ℕ
-front text = before_first (λ b. b == 32) text
-
--- The bytes after the first space of a text.
-abbrev pub rest : List ℕ → List ℕ
-rest text = after_first (λ b. b == 32) text
-
 -- The two words of a text of visible characters with a space between.
 abbrev pub two_words : List ℕ → Option (List ℕ × List ℕ)
 two_words text =
-    if is_graphic (front text) && is_graphic (rest text) then Some (front text, rest text) else None
+    if is_graphic (before_space text) && is_graphic (past_space text)
+    then Some (before_space text, past_space text) else None
 
 -- The three words of such a text.
 abbrev pub three_words : List ℕ → Option (List ℕ × List ℕ × List ℕ)
 three_words text =
-    if is_graphic (front text)
-    then option_map (λ w. (front text, w.0, w.1)) (two_words (rest text))
+    if is_graphic (before_space text)
+    then option_map (λ w. (before_space text, w.0, w.1)) (two_words (past_space text))
     else None
 
 -- What a line states, if it is one: its first word, and the words after it.
 unfoldable pub unmet_line : List ℕ → Option Unbound
 unmet_line text =
-    if bytes_eq (front text) (first_word kinds.Missing)
-    then option_map (λ w. Missing w.0 w.1) (two_words (rest text))
-    else if bytes_eq (front text) (first_word kinds.Gpl)
-    then option_map (λ w. Gpl w.0 w.1 w.2) (three_words (rest text))
-    else if bytes_eq (front text) (first_word kinds.Version)
-    then option_map (λ w. Version w.0 w.1 w.2) (three_words (rest text))
-    else if bytes_eq (front text) (first_word kinds.Namespace)
-    then option_map (λ w. Namespace w.0 w.1 w.2) (three_words (rest text))
-    else if bytes_eq (front text) (first_word kinds.Double)
-    then option_map (λ w. Double w.0 w.1 w.2) (three_words (rest text))
+    if bytes_eq (before_space text) (first_word kinds.Missing)
+    then option_map (λ w. Missing w.0 w.1) (two_words (past_space text))
+    else if bytes_eq (before_space text) (first_word kinds.Gpl)
+    then option_map (λ w. Gpl w.0 w.1 w.2) (three_words (past_space text))
+    else if bytes_eq (before_space text) (first_word kinds.Version)
+    then option_map (λ w. Version w.0 w.1 w.2) (three_words (past_space text))
+    else if bytes_eq (before_space text) (first_word kinds.Namespace)
+    then option_map (λ w. Namespace w.0 w.1 w.2) (three_words (past_space text))
+    else if bytes_eq (before_space text) (first_word kinds.Double)
+    then option_map (λ w. Double w.0 w.1 w.2) (three_words (past_space text))
     else None
