@@ -16,12 +16,13 @@ use Rattle.km_course.specs.declared.stop.Stop.{Stop}
 use Rattle.km_course.specs.declared.stop.Stop.TheVariants.{Ended}
 use Rattle.stages_files.specs.IndexFile.{reads_index}
 use Rattle.stages_files.specs.KernelModules.{modules_folder}
-use Rattle.command_builtin_alias.specs.BuiltinAlias.{names_found, lines_of_names, unless_none}
+use Rattle.km_names.specs.Lines.{lines_text}
+use Rattle.command_builtin_alias.specs.BuiltinAlias.{names_found, unless_none}
 use Rattle.command_builtin_alias.specs.BuiltinAlias.{found_outcome, shows_names}
 
 -- names that were found are their lines
 pub found-some : (asked text : List ℕ) (names : List (List ℕ)) → (length names ≡ 0 → ⊥)
-    → text ≡ lines_of_names names → unless_none asked names ≡ value text
+    → text ≡ lines_text names → unless_none asked names ≡ value text
 found-some asked text [] some is = absurd (some refl)
 found-some asked text (n ∷ names) some is = ap value (sym is)
 

@@ -1,8 +1,8 @@
 -- The course of `builtin-alias`, this project's own command. modprobe.d(5), "alias".
-use Rattle.std.specs.Prelude.{ℕ, List, [], ◌∷◌, ◌++◌, map, Option, Some, None, ⊤, codes}
-use Rattle.std.specs.List.{flat_map}
+use Rattle.std.specs.Prelude.{ℕ, List, [], ◌∷◌, map, Option, Some, None, ⊤, codes}
 use Rattle.km_names.specs.AliasForm.{normal_alias, normal_or_itself}
 use Rattle.km_names.specs.Path.{path_below}
+use Rattle.km_names.specs.Lines.{lines_text}
 use Rattle.index_read.specs.declared.index.Index.{Index}
 use Rattle.index_read.specs.Contents.{contents, wild_values}
 use Rattle.name_table.specs.FirstSeen.{first_seen}
@@ -22,15 +22,11 @@ names_found index None = []
 names_found index (Some normal) =
     first_seen (map (λ v. v.1) (wild_values (contents index.nodes) normal))
 
--- A line for each name.
-abbrev pub lines_of_names : List (List ℕ) → List ℕ
-lines_of_names names = flat_map (λ name. name ++ 10 ∷ []) names
-
 -- what names result in: their lines, and if there are none, that the name that stands for them
 -- isn't found
 abbrev pub unless_none : List ℕ → List (List ℕ) → Outcome (List ℕ)
 unless_none asked [] = end (Refused (NotFound asked))
-unless_none asked (name ∷ names) = value (lines_of_names (name ∷ names))
+unless_none asked (name ∷ names) = value (lines_text (name ∷ names))
 
 -- What a name results in. One that isn't found is reported in its normal form, if it has one.
 abbrev pub found_outcome : Index → List ℕ → Outcome (List ℕ)

@@ -4,7 +4,8 @@ ghost use Rattle.km_course.specs.FollowsOn.{FollowsOnFilesAndOut, Returns};
 ghost use Rattle.name_table.specs.FirstSeen.{first_seen};
 ghost use Rattle.index_read.specs.Values.{found_values};
 ghost use Rattle.command_builtin_alias.specs.BuiltinAlias.{builtin_alias_course, found_outcome};
-ghost use Rattle.command_builtin_alias.specs.BuiltinAlias.{lines_of_names, shows_names};
+ghost use Rattle.km_names.specs.Lines.{lines_text};
+ghost use Rattle.command_builtin_alias.specs.BuiltinAlias.{shows_names};
 
 use index_read::{Index, Values, plain};
 use km_course::{End, Refusal, Stop, say_any};
@@ -83,7 +84,7 @@ fn distinct<'a>(alloc: Global, values: &'a Values) -> Result<NameSet<'a>, AllocE
 
 /// Writes a line for each name.
 fn lines_of(alloc: Global, names: &NameSet) -> Result<Blob, AllocError>
-    ensures { IfOk result (λ text. text ≡ lines_of_names names.now) }
+    ensures { IfOk result (λ text. text ≡ lines_text names.now) }
 {
     let mut text = Blob::new(alloc);
     for place in 0..names.len() {

@@ -12,11 +12,12 @@ use Rattle.km_course.proofs.Following.{along}
 use Rattle.stages_known.specs.Known.{reads_known}
 use Rattle.command_modprobe.specs.Parts.{prints_names}
 use Rattle.command_modprobe.specs.Planned.{request_of}
-use Rattle.command_modprobe.specs.Resolved.{lines_of_names, resolves_alias}
+use Rattle.km_names.specs.Lines.{lines_text}
+use Rattle.command_modprobe.specs.Resolved.{resolves_alias}
 
 -- the stage after the names were looked up
 abbrev pub after_names : List (List ℕ) → Stage ⊤
-after_names names = says_any (lines_of_names names)
+after_names names = says_any (lines_text names)
 
 -- what is asked for, where its request is this
 pub resolves-asked : (asked : ModprobeWords) (request : Request) (old new : World)

@@ -10,7 +10,7 @@ use Rattle.stages_loads.specs.declared.shown.Images.{Images}
 use Rattle.stages_loads.specs.Tables.{reads_machine}
 use Rattle.command_modprobe.specs.Loaded.{loads_request}
 use Rattle.command_modprobe.specs.Planned.{loaded_in, plan_lines, plan_outcome}
-use Rattle.command_modprobe.specs.Resolved.{lines_of_names}
+use Rattle.km_names.specs.Lines.{lines_text}
 
 -- The lines of the plan of a request.
 abbrev pub prints_plan : List ℕ → Request → Mode → Known → Stage ⊤
@@ -22,7 +22,7 @@ prints_plan folder request mode known = do
 abbrev pub prints_names : Request → Known → Stage ⊤
 prints_names request known = do
   names ← given (names_outcome known request.use_blacklist request.names)
-  says_any (lines_of_names names)
+  says_any (lines_text names)
 
 -- The machine is read, and the plan of a request is made and loaded.
 abbrev pub loads_known : List ℕ → Images → Request → List ℕ → Option (List ℕ) → Region → Known

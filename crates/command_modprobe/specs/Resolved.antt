@@ -1,6 +1,6 @@
 -- What names stand for, as `modprobe -R` prints it. modprobe(8), `--resolve-alias`.
-use Rattle.std.specs.Prelude.{ℕ, Bool, List, [], ◌∷◌, ◌++◌, take, if◌then◌else◌, ⊤}
-use Rattle.std.specs.List.{flat_map}
+use Rattle.std.specs.Prelude.{ℕ, Bool, List, take, if◌then◌else◌, ⊤}
+use Rattle.km_names.specs.Lines.{lines_text}
 use Rattle.kmod_words.specs.declared.modprobe.ModprobeWords.{ModprobeWords}
 use Rattle.km_course.specs.Course.{Stage, ◌>>=◌, given, says_any}
 use Rattle.stages_files.specs.KernelModules.{modules_folder}
@@ -11,13 +11,9 @@ use Rattle.stages_known.specs.Named.{names_outcome}
 abbrev pub names_asked : Bool → List (List ℕ) → List (List ℕ)
 names_asked all words = if all then words else take 1 words
 
--- a line for each name
-abbrev pub lines_of_names : List (List ℕ) → List ℕ
-lines_of_names names = flat_map (λ name. name ++ 10 ∷ []) names
-
 -- The course of `modprobe -R`: a line for each name that the names stand for.
 abbrev pub resolves_alias : ModprobeWords → Stage ⊤
 resolves_alias asked = do
   known ← reads_known asked.config (modules_folder asked.dirname asked.version) asked.loaded
   names ← given (names_outcome known asked.use_blacklist (names_asked asked.all asked.words))
-  says_any (lines_of_names names)
+  says_any (lines_text names)

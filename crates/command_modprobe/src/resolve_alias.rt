@@ -3,7 +3,8 @@ ghost use Rattle.std.specs.Prelude.{◌≡◌, ⊤, IfOk};
 ghost use Rattle.km_course.specs.Course.{says_any};
 ghost use Rattle.km_course.specs.FollowsOn.{FollowsOnFilesAndOut, FollowsOnOut};
 ghost use Rattle.command_modprobe.specs.Parts.{prints_names};
-ghost use Rattle.command_modprobe.specs.Resolved.{lines_of_names, resolves_alias};
+ghost use Rattle.km_names.specs.Lines.{lines_text};
+ghost use Rattle.command_modprobe.specs.Resolved.{resolves_alias};
 
 use crate::basis::read_basis;
 use km_course::{Stop, say_any};
@@ -49,7 +50,7 @@ fn print_names<O: Out>(
 
 /// Prints a line for each name.
 fn say_names<O: Out>(alloc: Global, names: &Names, out: &mut O) -> Result<(), Stop>
-    ensures { FollowsOnOut (says_any (lines_of_names names.now)) O.seen out.old out.new result }
+    ensures { FollowsOnOut (says_any (lines_text names.now)) O.seen out.old out.new result }
 {
     let text = lines_of_names(alloc, names)?;
     say_any(out, text.as_bytes())
@@ -57,7 +58,7 @@ fn say_names<O: Out>(alloc: Global, names: &Names, out: &mut O) -> Result<(), St
 
 /// Returns a line for each name.
 fn lines_of_names(alloc: Global, names: &Names) -> Result<Blob, AllocError>
-    ensures { IfOk result (λ text. text ≡ lines_of_names names.now) }
+    ensures { IfOk result (λ text. text ≡ lines_text names.now) }
 {
     let mut text = Blob::new(alloc);
     for name in names.as_slice() {

@@ -4,7 +4,7 @@ use Rattle.std.specs.Prelude.{Result, ⊤, codes}
 use Rattle.km_names.specs.Path.{path_below}
 use Rattle.kmod_words.specs.declared.static_nodes.StaticNodesWords.{StaticNodesWords}
 use Rattle.devname_nodes.specs.declared.node.Node.{Node}
-use Rattle.devname_nodes.specs.File.{lines_text, read_of}
+use Rattle.devname_nodes.specs.File.{node_lines, read_of}
 use Rattle.km_course.specs.Course.{Stage, ◌>>=◌, given, says_any}
 use Rattle.km_course.specs.World.{World}
 use Rattle.km_course.specs.Follows.{Follows}
@@ -19,7 +19,7 @@ nodes_stated file bytes = given (stated_outcome (read_of file bytes))
 
 -- the stage after the nodes were read
 abbrev pub said : List Node → Stage ⊤
-said nodes = says_any (lines_text nodes)
+said nodes = says_any (node_lines nodes)
 
 -- what is asked for, where its folder and its file are these
 pub at-asked : (asked : StaticNodesWords) (folder file : List ℕ) (old new : World)

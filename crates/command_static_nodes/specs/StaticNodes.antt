@@ -4,7 +4,7 @@ use Rattle.km_names.specs.Path.{path_below}
 use Rattle.kmod_words.specs.declared.static_nodes.StaticNodesWords.{StaticNodesWords}
 use Rattle.kmod_words.specs.StaticNodes.{static_nodes_request}
 use Rattle.devname_nodes.specs.declared.node.Node.{Node}
-use Rattle.devname_nodes.specs.File.{lines_text, read_of}
+use Rattle.devname_nodes.specs.File.{node_lines, read_of}
 use Rattle.km_course.specs.Course.{Stage, ◌>>=◌, given, reads, ends, says_any}
 use Rattle.km_course.specs.declared.end.End.TheVariants.{NotUnderstood}
 use Rattle.stages_files.specs.Configuration.{stated_outcome}
@@ -21,7 +21,7 @@ abbrev pub shows_nodes : StaticNodesWords → Stage ⊤
 shows_nodes asked = do
   nodes ← reads_nodes
       (path_below (modules_folder asked.dirname asked.version) (codes "modules.devname"))
-  says_any (lines_text nodes)
+  says_any (node_lines nodes)
 
 -- the course of what the words ask for
 abbrev pub static_nodes_asked_for : Option StaticNodesWords → Stage ⊤

@@ -1,10 +1,7 @@
 -- Text files, as lines. modules.dep(5), depmod(8).
-use Rattle.std.specs.Prelude.{ℕ, List, [], ◌∷◌, ◌++◌, flat_map}
+use Rattle.std.specs.Prelude.{ℕ, List, [], ◌∷◌, ◌++◌}
+pub use Rattle.km_names.specs.Lines.{lines_text}
 
 -- A line with its line end.
 abbrev pub ended : List ℕ → List ℕ
 ended line = line ++ 10 ∷ []
-
--- The text of lines. Each ends with a line end.
-abbrev pub lines_text : List (List ℕ) → List ℕ
-lines_text lines = flat_map ended lines

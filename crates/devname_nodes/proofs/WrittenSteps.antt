@@ -32,7 +32,7 @@ use Rattle.devname_nodes.specs.Nodes.{word, device_of, numbered, number_of}
 use Rattle.devname_nodes.specs.Nodes.{is_comment, node_by, node_of, nodes_of}
 use Rattle.devname_nodes.specs.Line.{node_line, letter, kind_of, device_word, node_of_words}
 use Rattle.devname_nodes.specs.Line.{line_node, is_ignored, IsNode}
-use Rattle.devname_nodes.specs.File.{heading, lines_text, nodes_text, stated_nodes, read_of}
+use Rattle.devname_nodes.specs.File.{heading, node_lines, nodes_text, stated_nodes, read_of}
 use Rattle.devname_nodes.specs.File.{AreReadBack}
 use Rattle.devname_nodes.proofs.LineSteps.{place_at, place-begins, place-none, place-passed}
 use Rattle.devname_nodes.proofs.LineSteps.{place-ignored, all-read}
@@ -209,31 +209,31 @@ node-first n others good =
     (word-shown n good.major good.minor))
 
 lines-first : (n : Node) (nodes : List Node) → IsNode n
-    → lines_of (lines_text (n ∷ nodes)) ≡ node_line n ∷ lines_of (lines_text nodes)
+    → lines_of (node_lines (n ∷ nodes)) ≡ node_line n ∷ lines_of (node_lines nodes)
 lines-first n nodes good =
-    ap lines_of (append_assoc (node_line n) (10 ∷ []) (lines_text nodes))
-    ∙ node-first n (lines_text nodes) good
+    ap lines_of (append_assoc (node_line n) (10 ∷ []) (node_lines nodes))
+    ∙ node-first n (node_lines nodes) good
 
-no-text : lines_of (lines_text []) ≡ []
+no-text : lines_of (node_lines []) ≡ []
 no-text = no-lines [] refl
 
 stated-back : (nodes : List Node) → All IsNode nodes
-    → filter_map line_node (lines_of (lines_text nodes)) ≡ nodes
+    → filter_map line_node (lines_of (node_lines nodes)) ≡ nodes
 stated-back [] all = ap (filter_map line_node) no-text
 stated-back (n ∷ nodes) all =
     let good = All-head IsNode n nodes all in
     ap (filter_map line_node) (lines-first n nodes good)
-    ∙ ap (λ o. cons_option o (filter_map line_node (lines_of (lines_text nodes))))
+    ∙ ap (λ o. cons_option o (filter_map line_node (lines_of (node_lines nodes))))
     (line-back n good)
     ∙ ap (λ ns. n ∷ ns) (stated-back nodes (All-tail IsNode n nodes all))
 
 none-bad : (file : List ℕ) (k : ℕ) (nodes : List Node) → All IsNode nodes
-    → place_at file k (lines_of (lines_text nodes)) ≡ None
+    → place_at file k (lines_of (node_lines nodes)) ≡ None
 none-bad file k [] all = ap (place_at file k) no-text ∙ place-none file k
 none-bad file k (n ∷ nodes) all =
     let good = All-head IsNode n nodes all in
     ap (place_at file k) (lines-first n nodes good)
-    ∙ place-passed file k (node_line n) (lines_of (lines_text nodes)) n (sym (line-back n good))
+    ∙ place-passed file k (node_line n) (lines_of (node_lines nodes)) n (sym (line-back n good))
     ∙ none-bad file (k + 1) nodes (All-tail IsNode n nodes all)
 
 heading-ignored : is_ignored heading ≡ true
@@ -244,9 +244,9 @@ unfolding line_node is_graphic
 heading-states = refl
 
 text-lines : (nodes : List Node)
-    → lines_of (nodes_text nodes) ≡ heading ∷ lines_of (lines_text nodes)
+    → lines_of (nodes_text nodes) ≡ heading ∷ lines_of (node_lines nodes)
 unfolding nodes_text
-text-lines nodes = line-first heading (lines_text nodes) refl
+text-lines nodes = line-first heading (node_lines nodes) refl
 
 file-back : (file : List ℕ) (nodes : List Node) → All IsNode nodes
     → read_of file (nodes_text nodes) ≡ Ok nodes
@@ -255,10 +255,10 @@ file-back file nodes all =
     all-read file (nodes_text nodes) nodes
     (sym (place-begins file (nodes_text nodes))
     ∙ ap (place_at file 1) (text-lines nodes)
-    ∙ place-ignored file 1 heading (lines_of (lines_text nodes)) heading-ignored
+    ∙ place-ignored file 1 heading (lines_of (node_lines nodes)) heading-ignored
     ∙ none-bad file 2 nodes all)
     (ap (filter_map line_node) (text-lines nodes)
-    ∙ ap (λ o. cons_option o (filter_map line_node (lines_of (lines_text nodes)))) heading-states
+    ∙ ap (λ o. cons_option o (filter_map line_node (lines_of (node_lines nodes)))) heading-states
     ∙ stated-back nodes all)
 
 -- ---- the nodes of a tree

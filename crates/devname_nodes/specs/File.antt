@@ -15,12 +15,12 @@ abbrev pub heading : List ℕ
 heading = codes "# Device nodes to trigger on-demand module loading."
 
 -- The lines of nodes, each with its line end.
-abbrev pub lines_text : List Node → List ℕ
-lines_text nodes = flat_map (λ n. node_line n ++ 10 ∷ []) nodes
+abbrev pub node_lines : List Node → List ℕ
+node_lines nodes = flat_map (λ n. node_line n ++ 10 ∷ []) nodes
 
 -- The text of the file with these nodes: the heading, and a line for each.
 unfoldable pub nodes_text : List Node → List ℕ
-nodes_text nodes = heading ++ 10 ∷ lines_text nodes
+nodes_text nodes = heading ++ 10 ∷ node_lines nodes
 
 -- Whether a line is refused: it states no node, and isn't ignored.
 abbrev pub is_bad : List ℕ → Bool

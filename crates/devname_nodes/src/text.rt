@@ -1,7 +1,7 @@
 // The lines of device nodes, and the text of modules.devname.
 ghost use Rattle.std.specs.Prelude.{◌≡◌, ◌++◌, ◌∷◌, [], IfOk, OnOk};
 ghost use Rattle.devname_nodes.specs.Line.{node_line};
-ghost use Rattle.devname_nodes.specs.File.{lines_text, nodes_text};
+ghost use Rattle.devname_nodes.specs.File.{node_lines, nodes_text};
 
 use crate::{Node, NodeList};
 use km_names::Blob;
@@ -10,7 +10,7 @@ use std::alloc::{AllocError, Global};
 /// Returns the lines of nodes, in the order of the list. Each is a line `MODULE DEVICE TM:N` with T
 /// being `c` or `b`, the numbers without leading zeros. Each ends with a line end.
 pub fn node_lines(alloc: Global, nodes: &NodeList) -> Result<Blob, AllocError>
-    ensures { IfOk result (λ text. text ≡ lines_text nodes.now) }
+    ensures { IfOk result (λ text. text ≡ node_lines nodes.now) }
 {
     let mut text = Blob::new(alloc);
     push_lines(alloc, &mut text, nodes)?;
@@ -33,7 +33,7 @@ pub fn nodes_text(alloc: Global, nodes: &NodeList) -> Result<Blob, AllocError>
 
 /// Puts a line for each node at the end.
 fn push_lines(alloc: Global, text: &mut Blob, nodes: &NodeList) -> Result<(), AllocError>
-    ensures { OnOk result (text.new ≡ text.old ++ lines_text nodes.now) }
+    ensures { OnOk result (text.new ≡ text.old ++ node_lines nodes.now) }
 {
     for node in nodes.as_slice() {
         push_line(alloc, text, node)?;

@@ -1,6 +1,6 @@
 -- The lines of text files, and the joined lines of configuration files. modprobe.d(5), depmod.d(5).
 use Rattle.std.specs.Prelude.{ℕ, ◌+◌, ◌-◌, List, [], ◌∷◌, ◌++◌, Bool, false, not, ◌==◌}
-use Rattle.std.specs.Prelude.{if◌then◌else◌, nat_eq, length, take, map, filter}
+use Rattle.std.specs.Prelude.{if◌then◌else◌, nat_eq, length, take, map, filter, flat_map}
 use Rattle.std.specs.List.{slice_split, ends_with}
 use Rattle.km_names.specs.declared.conf.Line.{Line}
 use Rattle.km_names.specs.Space.{trimmed}
@@ -15,6 +15,10 @@ without_empty_last (piece ∷ pieces) = piece ∷ without_empty_last pieces
 -- is empty.
 unfoldable pub lines_of : List ℕ → List (List ℕ)
 lines_of text = without_empty_last (slice_split (λ b. b == 10) text)
+
+-- The text of lines: each of them with a line end.
+abbrev pub lines_text : List (List ℕ) → List ℕ
+lines_text lines = flat_map (λ line. line ++ 10 ∷ []) lines
 
 -- Whether a line continues in the next: its last byte is `\`.
 abbrev pub goes_on : List ℕ → Bool

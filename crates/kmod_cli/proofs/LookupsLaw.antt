@@ -26,7 +26,7 @@ use Rattle.index_format.specs.Check.{index_fault}
 use Rattle.index_format.specs.Holds.{Holds}
 use Rattle.builtin_index.specs.Aliases.{alias_map}
 use Rattle.module_facts.specs.declared.facts.Facts.{Facts}
-use Rattle.devname_nodes.specs.File.{lines_text, read_of}
+use Rattle.devname_nodes.specs.File.{node_lines, read_of}
 use Rattle.devname_nodes.specs.Nodes.{nodes_of}
 use Rattle.stages_files.specs.Configuration.{stated_outcome}
 use Rattle.stages_files.specs.IndexFile.{index_of, index_outcome, reads_index}
@@ -146,7 +146,7 @@ names-printed held folder info wanted has at =
 
 nodes-printed : (held : Contents) (folder : List ℕ) (tree : List Facts) (wanted : StaticNodesWords)
     → HasNodes held folder tree → modules_folder wanted.dirname wanted.version ≡ folder
-    → PrintedBy (value (lines_text (nodes_of tree))) ((shows_nodes wanted).run held)
+    → PrintedBy (value (node_lines (nodes_of tree))) ((shows_nodes wanted).run held)
 nodes-printed held folder tree wanted has at =
     let path
     = path_below (modules_folder wanted.dirname wanted.version) (codes "modules.devname") in
@@ -165,7 +165,7 @@ nodes-printed held folder tree wanted has at =
       reads = refl;
       is =
           run-then (reads_nodes path) nodes_said held (read path ∷ []) nodes reading
-          ∙ ap (joined (read path ∷ [])) (lines-said (lines_text nodes) held);
+          ∙ ap (joined (read path ∷ [])) (lines-said (node_lines nodes) held);
     }
 
 alias-carried : (words rest : List (List ℕ)) (old new : World) (status : ℕ)
@@ -201,8 +201,8 @@ lookups-meet first second asked shown told old new later last status d over tell
       nodes = λ rest wanted words asks at.
           printed (static_nodes_course rest) later last status
           (nodes-carried second rest later last status words c) told tells
-          (value (lines_text (nodes_of left.tree)))
-          (subst (λ request. PrintedBy (value (lines_text (nodes_of left.tree)))
+          (value (node_lines (nodes_of left.tree)))
+          (subst (λ request. PrintedBy (value (node_lines (nodes_of left.tree)))
           ((static_nodes_asked_for request).run told.files)) (sym asks)
           (nodes-printed told.files (target_of_request asked) left.tree wanted left.nodes at));
     }

@@ -13,7 +13,7 @@ use Rattle.kmod_words.specs.declared.static_nodes.StaticNodesWords.{StaticNodesW
 use Rattle.kmod_words.specs.BuiltinAlias.{builtin_alias_request}
 use Rattle.kmod_words.specs.Depmod.{depmod_request}
 use Rattle.kmod_words.specs.StaticNodes.{static_nodes_request}
-use Rattle.devname_nodes.specs.File.{lines_text}
+use Rattle.devname_nodes.specs.File.{node_lines}
 use Rattle.devname_nodes.specs.Nodes.{nodes_of}
 use Rattle.stages_files.specs.KernelModules.{modules_folder}
 use Rattle.command_builtin_alias.specs.BuiltinAlias.{unless_none}
@@ -64,7 +64,7 @@ pub record AnswersLookups (asked : DepmodWords) (words : List (List ℕ)) (held 
   pub nodes : (rest : List (List ℕ)) (wanted : StaticNodesWords)
       → words ≡ codes "static-nodes" ∷ rest → static_nodes_request rest ≡ Some wanted
       → modules_folder wanted.dirname wanted.version ≡ target_of_request asked
-      → PrintsOutcome (value (lines_text (nodes_of left.tree))) told old new status
+      → PrintsOutcome (value (node_lines (nodes_of left.tree))) told old new status
 
 -- Where the files of the second call are those that the first one left, so it answers.
 abbrev pub LookupsMeet : Type 0

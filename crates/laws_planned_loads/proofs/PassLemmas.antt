@@ -116,7 +116,8 @@ use Rattle.command_modprobe.proofs.CourseSteps.{Fits, map-given, removal-has}
 use Rattle.command_modprobe.specs.Parts.{loads_known}
 use Rattle.command_modprobe.specs.Planned.{loaded_in, plan_lines, plan_outcome, plan_unless}
 use Rattle.command_modprobe.specs.Planned.{request_of, sources_with}
-use Rattle.command_modprobe.specs.Resolved.{lines_of_names, names_asked}
+use Rattle.km_names.specs.Lines.{lines_text}
+use Rattle.command_modprobe.specs.Resolved.{names_asked}
 use Rattle.stages_known.specs.Named.{found_names, is_unknown, names_outcome, unless_unknown}
 use Rattle.stages_known.proofs.KnownSteps.{loaded_stated}
 use Rattle.command_modprobe.proofs.LoadSteps.{after_lines, after_listed, after_loads, after_machine}
@@ -449,7 +450,7 @@ module _ (held : Contents) (asked : ModprobeWords) where
   folder = modules_folder asked.dirname asked.version
 
   abbrev says_names : List (List ℕ) → Stage ⊤
-  says_names names = says_any (lines_of_names names)
+  says_names names = says_any (lines_text names)
 
   abbrev resolves : Known → Stage ⊤
   resolves known
@@ -462,7 +463,7 @@ module _ (held : Contents) (asked : ModprobeWords) where
       (given (names_outcome known asked.use_blacklist (names_asked asked.all asked.words)))
       says_names
       (other-looked_up known asked.use_blacklist (names_asked asked.all asked.words))
-      (λ names. ends-says_any Other (lines_of_names names))
+      (λ names. ends-says_any Other (lines_text names))
 
   abbrev says_plan : List PlanStep → Stage ⊤
   says_plan steps = says_any (plan_lines folder steps)

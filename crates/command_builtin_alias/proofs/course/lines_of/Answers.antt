@@ -1,5 +1,5 @@
 use Rattle.std.proofs.Common.{◌≡◌, ◌<◌, subst, ◌++◌, ◌∷◌, [], take, sym, ap, ◌∙◌, append_assoc}
-use Rattle.command_builtin_alias.specs.BuiltinAlias.{lines_of_names}
+use Rattle.km_names.specs.Lines.{lines_text}
 use Rattle.command_builtin_alias.proofs.LineSteps.{lines-more, none-there}
 use Rattle.command_builtin_alias.proofs.course.lines_of.Goals as goal
 use Rattle.command_builtin_alias.proofs.course.lines_of.Goals.{in-Some+in_ok-extend+in_ok-push}
@@ -15,7 +15,7 @@ loop-place-preserved c =
           ∙ w.in_ok-push.ensures.ok
           ∙ ap (λ t. t ++ 10 ∷ [])
           (w.in_ok-extend.ensures.ok ∙ ap (λ t. t ++ w.in-Some.name.now) c.loop-place.invariant)
-          ∙ append_assoc (lines_of_names (take place names)) w.in-Some.name.now (10 ∷ [])
+          ∙ append_assoc (lines_text (take place names)) w.in-Some.name.now (10 ∷ [])
           ∙ sym (lines-more names place w.in-Some.name.now w.in-Some.ensures)
       | in_default w ↦ absurd
           (none-there names place
