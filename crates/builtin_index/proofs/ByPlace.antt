@@ -13,8 +13,8 @@ use Rattle.std.specs.FinMap.{empty, get, get-empty}
 use Rattle.std.proofs.lemmas.Bool.{cases_lt}
 use Rattle.std.proofs.lemmas.Bool.Decides.{nat_tests}
 use Rattle.index_format.specs.Map.{Value, KeyValues, values_of, place, with_value}
-use Rattle.index_format.specs.Listing.{KeyValue, under, IsByPriority}
-use Rattle.builtin_index.specs.Aliases.{with_values, alias_map, alias_values}
+use Rattle.index_format.specs.Listing.{KeyValue, under, IsByPriority, with_values}
+use Rattle.builtin_index.specs.Aliases.{alias_map, alias_values}
 use Rattle.builtin_index.specs.Fields.{fields_of}
 use Rattle.builtin_index.specs.Laws.{AreByPlace}
 use Rattle.builtin_index.proofs.MapOrder.{more, both-parts, same_key, key-equal, values-after}

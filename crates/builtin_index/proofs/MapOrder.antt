@@ -23,7 +23,7 @@ use Rattle.index_format.specs.Map.{Value, KeyValues, values_of, place, with_valu
 use Rattle.index_format.specs.Listing.{KeyValue}
 use Rattle.index_format.proofs.StableOrder.{insert_by, sorted_by, stable-sorted_by}
 use Rattle.builtin_index.specs.declared.aliases.Stated.{Stated}
-use Rattle.builtin_index.specs.Aliases.{with_values}
+use Rattle.index_format.specs.Listing.{with_values}
 use Rattle.builtin_index.specs.Parts.{alias_shown, value_at, IsWord}
 
 -- ---- two values of one key

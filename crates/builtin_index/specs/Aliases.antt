@@ -1,13 +1,12 @@
 -- The aliases of the modules that are built into the kernel, and the map of their index.
 -- modprobe.d(5), "alias".
-use Rattle.std.specs.Prelude.{ℕ, ◌&&◌, Bool, List, map, filter, fold, Option, option_map, codes}
+use Rattle.std.specs.Prelude.{ℕ, ◌&&◌, Bool, List, map, filter, Option, option_map, codes}
 use Rattle.std.specs.List.{filter_map, position_or_len}
 use Rattle.std.specs.Str.{bytes_eq}
 use Rattle.km_names.specs.Ascii.{is_graphic}
 use Rattle.km_names.specs.AliasForm.{normal_alias}
-use Rattle.std.specs.FinMap.{empty}
-use Rattle.index_format.specs.Map.{KeyValues, with_value}
-use Rattle.index_format.specs.Listing.{KeyValue}
+use Rattle.index_format.specs.Map.{KeyValues}
+use Rattle.index_format.specs.Listing.{KeyValue, map_of}
 use Rattle.name_table.specs.FirstSeen.{first_seen}
 use Rattle.builtin_index.specs.declared.piece.BuiltinField.{BuiltinField}
 use Rattle.builtin_index.specs.Fields.{fields_of}
@@ -29,14 +28,6 @@ place_among names name = position_or_len (bytes_eq name) names
 abbrev pub alias_value : List (List ℕ) → BuiltinField → Option KeyValue
 alias_value names f =
     option_map (λ key. (key, (place_among names f.module, f.module))) (normal_alias f.value)
-
--- A map with more values, each put under its key.
-abbrev pub with_values : KeyValues → List KeyValue → KeyValues
-with_values m values = fold (λ m value. with_value m value.0 value.1) m values
-
--- The map of some values.
-abbrev pub map_of : List KeyValue → KeyValues
-map_of values = with_values empty values
 
 -- The values of the aliases that some fields state, each under its key, in the order of the fields.
 abbrev pub alias_values : List BuiltinField → List KeyValue

@@ -6,7 +6,8 @@ ghost use Rattle.std.specs.Str.{bytes_eq};
 ghost use Rattle.km_names.specs.Ascii.{is_graphic};
 ghost use Rattle.km_names.specs.Limit.{file_limit};
 ghost use Rattle.builtin_index.specs.Fields.{fields_of};
-ghost use Rattle.builtin_index.specs.Aliases.{is_alias, modules_of, alias_map, map_of, with_values};
+ghost use Rattle.index_format.specs.Listing.{with_values, map_of};
+ghost use Rattle.builtin_index.specs.Aliases.{is_alias, modules_of, alias_map};
 ghost use Rattle.builtin_index.specs.Parts.{field_shown, alias_shown, alias_in, value_at, IsWord};
 
 use crate::piece::{Parts, read_parts};

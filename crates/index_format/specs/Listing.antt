@@ -1,14 +1,23 @@
 -- The values of many keys, each with its key. They are ordered by the bytes of the keys, and the
 -- values of one key keep their order. Another order is by rising priority.
-use Rattle.std.specs.Prelude.{◌≡◌, ℕ, List, [], map, filter}
+use Rattle.std.specs.Prelude.{◌≡◌, ℕ, List, [], map, filter, fold}
 use Rattle.std.specs.List.Sorted.{IsSortedByKey, IsStableByKey}
 use Rattle.std.specs.Ordering.{nat_cmp, is_eq}
 use Rattle.std.specs.Cmp.Lexicographic.{slice_cmp}
-use Rattle.index_format.specs.Map.{Value}
+use Rattle.std.specs.FinMap.{empty}
+use Rattle.index_format.specs.Map.{Value, KeyValues, with_value}
 
 -- A key with one of its values.
 abbrev pub KeyValue : Type 0
 KeyValue = List ℕ × Value
+
+-- A map with more values, each put under its key.
+abbrev pub with_values : KeyValues → List KeyValue → KeyValues
+with_values m values = fold (λ m value. with_value m value.0 value.1) m values
+
+-- The map of some values.
+abbrev pub map_of : List KeyValue → KeyValues
+map_of values = with_values empty values
 
 -- The values of a key.
 abbrev pub under : List ℕ → List KeyValue → List Value

@@ -17,7 +17,7 @@ use Rattle.index_format.specs.Map.{Value, KeyValues, values_of, place, with_valu
 use Rattle.index_format.specs.Listing.{KeyValue, under}
 use Rattle.index_read.specs.Contents.{by_priority, insert_first, values_matching}
 use Rattle.glob_match.specs.Decision.{is_match}
-use Rattle.builtin_index.specs.Aliases.{with_values}
+use Rattle.index_format.specs.Listing.{with_values}
 use Rattle.builtin_index.proofs.MapOrder.{more, same_key, key-equal, values-after}
 
 -- ---- tests

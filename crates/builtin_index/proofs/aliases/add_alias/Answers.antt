@@ -3,7 +3,7 @@ use Rattle.std.specs.Option.{option_to_list}
 use Rattle.km_names.specs.Path.{underscored}
 use Rattle.index_format.specs.Map.{IsKey, IsText, with_value}
 use Rattle.index_write.proofs.VisibleWords.{normal-key, underscored-text}
-use Rattle.builtin_index.specs.Aliases.{with_values}
+use Rattle.index_format.specs.Listing.{with_values}
 use Rattle.builtin_index.proofs.aliases.add_alias.Goals as goal
 
 pub add_owned-requires-clause-key : goal.add_owned-requires-clause-key

@@ -4,7 +4,8 @@ use Rattle.std.specs.FinMap.{empty}
 use Rattle.std.proofs.lemmas.Fn.{always_returns_same}
 use Rattle.std.proofs.lemmas.Result.{IfOk-weaker}
 use Rattle.builtin_index.specs.Fields.{fields_of}
-use Rattle.builtin_index.specs.Aliases.{modules_of, alias_map, map_of}
+use Rattle.index_format.specs.Listing.{map_of}
+use Rattle.builtin_index.specs.Aliases.{modules_of, alias_map}
 use Rattle.builtin_index.specs.Parts.{alias_shown, value_at, IsWord}
 use Rattle.builtin_index.proofs.Places.{same-values}
 use Rattle.builtin_index.proofs.MapOrder.{sorted-values, sorted-words}

@@ -1,6 +1,6 @@
 use Rattle.std.proofs.Common.{◌≡◌, map, take}
 use Rattle.std.specs.List.{filter_map}
-use Rattle.builtin_index.specs.Aliases.{map_of}
+use Rattle.index_format.specs.Listing.{map_of}
 use Rattle.builtin_index.specs.Parts.{alias_shown, value_at}
 use Rattle.builtin_index.proofs.aliases.map_of_aliases.Given as goal
 
