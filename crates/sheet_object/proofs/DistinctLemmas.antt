@@ -10,7 +10,8 @@ use Rattle.std.proofs.lemmas.List.Folds.{list_any-append, list_all-map, list_all
 use Rattle.std.proofs.lemmas.Cmp.{nat_list_eq_equiv}
 use Rattle.std.specs.List.{AllByRecursion, IsDistinct, list_all, list_any}
 use Rattle.std.specs.Str.{bytes_eq}
-use Rattle.sheet_object.specs.Sheet.{is_among, are_chosen, are_distinct}
+use Rattle.name_table.specs.FirstSeen.{is_among}
+use Rattle.sheet_object.specs.Sheet.{are_chosen, are_distinct}
 use Rattle.name_table.specs.NameTable.{Table, IsTableOf, place_of}
 use Rattle.sheet_object.proofs.NameLemmas.{is_among-first_place}
 

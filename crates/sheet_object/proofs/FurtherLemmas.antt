@@ -11,7 +11,8 @@ use Rattle.sheet_object.specs.declared.section.TheConstants.{TEXT}
 use Rattle.sheet_object.specs.declared.sheet.SheetMore.{SheetMore}
 use Rattle.sheet_object.specs.declared.sheet.SheetSpace.{SheetSpace}
 use Rattle.elf_write.specs.Number.{with_nul}
-use Rattle.sheet_object.specs.Sheet.{is_among, spaced_names}
+use Rattle.name_table.specs.FirstSeen.{is_among}
+use Rattle.sheet_object.specs.Sheet.{spaced_names}
 use Rattle.sheet_object.specs.Further.{unless_empty, gpl_section, space_bytes, space_place}
 use Rattle.sheet_object.specs.Further.{text_place}
 use Rattle.sheet_object.specs.Symbols.{table_section}

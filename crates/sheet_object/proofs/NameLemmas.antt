@@ -10,7 +10,8 @@ use Rattle.std.proofs.lemmas.List.Folds.{list_all-map}
 use Rattle.std.specs.List.{list_all, list_any, position_from, range_with_len, slice_get}
 use Rattle.std.specs.Str.{bytes_eq}
 use Rattle.name_table.specs.NameTable.{states, first_place}
-use Rattle.sheet_object.specs.Sheet.{is_among, is_text}
+use Rattle.name_table.specs.FirstSeen.{is_among}
+use Rattle.sheet_object.specs.Sheet.{is_text}
 use Rattle.sheet_object.specs.Writing.{names_of}
 
 position_from-map : {X Y : Type 0} (f : X → Y) (p : Y → Bool) (i : ℕ) (xs : List X)

@@ -2,7 +2,7 @@
 use Rattle.std.specs.Prelude.{ℕ, ◌++◌, ◌^◌, ◌&&◌, ◌==◌, Bool, true, not, nat_le, nat_lt, List, []}
 use Rattle.std.specs.Prelude.{◌∷◌, length, map}
 use Rattle.std.specs.List.{list_all, list_any}
-use Rattle.std.specs.Str.{bytes_eq}
+use Rattle.name_table.specs.FirstSeen.{is_among}
 use Rattle.sheet_object.specs.declared.sheet.Sheet.{Sheet}
 use Rattle.sheet_object.specs.declared.sheet.SheetExport.{SheetExport}
 use Rattle.sheet_object.specs.declared.sheet.SheetMore.{SheetMore}
@@ -52,10 +52,6 @@ is_extended v = has_no_nul v.name && nat_lt v.crc (2 ^ 32)
 -- Whether a namespace has no NUL and isn't empty.
 abbrev pub is_space : SheetSpace → Bool
 is_space p = has_no_nul p.space && nat_lt 0 (length p.space)
-
--- Whether a name is one of these.
-abbrev pub is_among : List (List ℕ) → List ℕ → Bool
-is_among names name = list_any (bytes_eq name) names
 
 -- Whether no name occurs twice.
 abbrev pub are_distinct : List (List ℕ) → Bool

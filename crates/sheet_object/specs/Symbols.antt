@@ -10,7 +10,8 @@ use Rattle.sheet_object.specs.declared.sheet.Sheet.{Sheet}
 use Rattle.sheet_object.specs.declared.sheet.SheetExport.{SheetExport}
 use Rattle.sheet_object.specs.declared.sheet.SheetMore.{SheetMore}
 use Rattle.sheet_object.specs.declared.sheet.SheetNeed.{SheetNeed}
-use Rattle.sheet_object.specs.Sheet.{is_among, symbol_names}
+use Rattle.name_table.specs.FirstSeen.{is_among}
+use Rattle.sheet_object.specs.Sheet.{symbol_names}
 use Rattle.elf_write.specs.Number.{half, word, xword, with_nul}
 use Rattle.sheet_object.specs.Further.{gpl_section, strings_section, space_place}
 

@@ -3,7 +3,8 @@ ghost use Rattle.std.specs.Prelude.{◌≡◌, ◌≤◌, ◌&&◌, ℕ, List, [
 ghost use Rattle.std.specs.List.{list_all};
 ghost use Rattle.name_table.specs.NameTable.{IsTableOf};
 ghost use Rattle.sheet_object.specs.Sheet.{has_no_nul, is_few, is_text, is_version, is_extended};
-ghost use Rattle.sheet_object.specs.Sheet.{is_space, is_among, are_distinct, are_chosen, are_few};
+ghost use Rattle.name_table.specs.FirstSeen.{is_among};
+ghost use Rattle.sheet_object.specs.Sheet.{is_space, are_distinct, are_chosen, are_few};
 ghost use Rattle.sheet_object.specs.Sheet.{are_texts, are_known, symbol_names, is_sheet};
 ghost use Rattle.sheet_object.specs.Writing.{names_of};
 

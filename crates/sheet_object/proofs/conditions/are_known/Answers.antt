@@ -3,7 +3,8 @@ use Rattle.std.specs.List.{list_all}
 use Rattle.sheet_object.specs.declared.sheet.SheetExport.{SheetExport}
 use Rattle.sheet_object.specs.declared.sheet.SheetPlace.{SheetPlace}
 use Rattle.sheet_object.specs.declared.sheet.SheetSpace.{SheetSpace}
-use Rattle.sheet_object.specs.Sheet.{are_chosen, are_distinct, are_known, export_names, is_among}
+use Rattle.name_table.specs.FirstSeen.{is_among}
+use Rattle.sheet_object.specs.Sheet.{are_chosen, are_distinct, are_known, export_names}
 use Rattle.sheet_object.specs.Sheet.{place_names, spaced_names}
 use Rattle.sheet_object.proofs.NameLemmas.{map-same}
 use Rattle.sheet_object.proofs.SheetLemmas.{few}

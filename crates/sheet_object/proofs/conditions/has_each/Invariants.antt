@@ -1,7 +1,7 @@
 use Rattle.std.proofs.Common.{◌≡◌, ℕ, List, true, map, take, Some}
 use Rattle.std.specs.List.{list_all}
 use Rattle.name_table.specs.NameTable.{IsTableOf}
-use Rattle.sheet_object.specs.Sheet.{is_among}
+use Rattle.name_table.specs.FirstSeen.{is_among}
 use Rattle.sheet_object.proofs.conditions.has_each.Given as goal
 
 abbrev pub invariant-loop-item : goal.invariant-loop-item
