@@ -155,7 +155,7 @@ by-first {X} {Y} P stage next files only ended gone = by_outcome (stage.run file
 -- ---- the kernel
 
 was-tabled : (file : List ℕ) (o : Result (List KernelExport) ℕ) (table : Table)
-    → table_outcome file o ≡ value table → (table.known ≡ true) × (o ≡ Ok table.exports)
+    → table_outcome file true o ≡ value table → (table.known ≡ true) × (o ≡ Ok table.exports)
 unfolding table_outcome
 was-tabled file (Ok exports) table came =
     let same : ◌≡◌ {A = Table} (record { known = true; exports = exports }) table = cc in
@@ -166,16 +166,16 @@ was-tabled file (Err fault) table came = cc
 stated-came : (files : Contents) (file : List ℕ) (state : List ℕ → Result (List KernelExport) ℕ)
     (table : Table)
     → ((bytes : List ℕ) (es : List KernelExport) → state bytes ≡ Ok es → IsTable es)
-    → ((reads file >>= λ bytes. given (table_outcome file (state bytes))).run files).outcome
+    → ((reads file >>= λ bytes. given (table_outcome file true (state bytes))).run files).outcome
     ≡ value table
     → (table.known ≡ true) × IsTable table.exports
 stated-came files file state table apart came =
     let h
-    = goes-on (reads file) (λ bytes. given (table_outcome file (state bytes))) files table came
+    = goes-on (reads file) (λ bytes. given (table_outcome file true (state bytes))) files table came
     in
     let t
     = was-tabled file (state h.mid) table
-    (given-came (table_outcome file (state h.mid)) table
+    (given-came (table_outcome file true (state h.mid)) table
     (after ((reads file).run files).acts files) h.rest) in
     (t.0, apart h.mid table.exports t.1)
 

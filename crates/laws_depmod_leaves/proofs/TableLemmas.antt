@@ -1,5 +1,5 @@
 -- The tables of kernels that depmod and modprobe read of files of the same bytes.
-use Rattle.std.proofs.Common.{◌≡◌, ◌∙◌, ℕ, List, None, sym, ap, subst}
+use Rattle.std.proofs.Common.{◌≡◌, ◌∙◌, ℕ, List, None, sym, ap, subst, true}
 use Rattle.std.specs.Prelude.{Option, Some, Result, Ok, Err}
 use Rattle.std.specs.FinMap.{get}
 use Rattle.km_outside.specs.Contents.{Contents}
@@ -15,7 +15,7 @@ use Rattle.module_region.specs.declared.region.Region.{Region}
 use Rattle.model_loader.specs.Machine.{Machine, new_machine}
 use Rattle.stages_files.specs.KernelTable.{Table, reads_kernel, reads_map, reads_symvers, table_of}
 use Rattle.stages_files.specs.KernelTable.{table_outcome}
-use Rattle.stages_loads.specs.Tables.{addressed_outcome, kernel_with, machine_outcome}
+use Rattle.stages_loads.specs.Tables.{kernel_with, machine_outcome}
 use Rattle.stages_loads.specs.Tables.{reads_addressed, reads_machine, unplaced}
 use Rattle.stages_loads.proofs.KernelLemmas.{addressed-apart, kernel_with-exports}
 use Rattle.stages_loads.proofs.TableSteps.{both_added, both_read, both_understood, kernel_with-same}
@@ -34,16 +34,16 @@ record IsStated (files : Contents) (file : List ℕ) (state : List ℕ → Resul
     (table : Table) : Type 0 where
   bytes : List ℕ
   there : get files file ≡ Some bytes
-  states : table_outcome file (state bytes) ≡ value table
+  states : table_outcome file true (state bytes) ≡ value table
 
 was-stated : (files : Contents) (file : List ℕ) (state : List ℕ → Result (List KernelExport) ℕ)
     (table : Table)
-    → ((reads file >>= λ bytes. given (table_outcome file (state bytes))).run files).outcome
+    → ((reads file >>= λ bytes. given (table_outcome file true (state bytes))).run files).outcome
     ≡ value table
     → IsStated files file state table
 was-stated files file state table came =
     let h
-    = goes-on (reads file) (λ bytes. given (table_outcome file (state bytes))) files table came
+    = goes-on (reads file) (λ bytes. given (table_outcome file true (state bytes))) files table came
     in
     record {
       bytes = h.mid;
@@ -51,7 +51,7 @@ was-stated files file state table came =
           = (file-there file h.mid (get files file)
           (read-came (end (NoFile file)) file files h.mid h.first)).0;
       states
-          = given-came (table_outcome file (state h.mid)) table
+          = given-came (table_outcome file true (state h.mid)) table
           (after ((reads file).run files).acts files) h.rest;
     }
 
@@ -60,7 +60,7 @@ same-value a b is = cc
 
 -- the table of what is stated doesn't tell at which path it stands
 same-stated : (file other : List ℕ) (stated : Result (List KernelExport) ℕ) (a b : Table)
-    → table_outcome file stated ≡ value a → table_outcome other stated ≡ value b → a ≡ b
+    → table_outcome file true stated ≡ value a → table_outcome other true stated ≡ value b → a ≡ b
 unfolding table_outcome
 same-stated file other (Ok exports) a b at_file at_other = same-value a b (sym at_file ∙ at_other)
 same-stated file other (Err fault) a b at_file at_other = absurd cc
@@ -75,13 +75,13 @@ one-table held left file other state a b same in_held in_left =
     = sym in_held.there ∙ same ∙ in_left.there in
     let bytes : in_held.bytes ≡ in_left.bytes = cc in
     same-stated file other (state in_left.bytes) a b
-    (ap (λ bs. table_outcome file (state bs)) (sym bytes) ∙ in_held.states) in_left.states
+    (ap (λ bs. table_outcome file true (state bs)) (sym bytes) ∙ in_held.states) in_left.states
 
 was-addressed : (file : List ℕ) (exported : Table) (stated : Result (List KernelExport) ℕ)
     (table : Table)
-    → addressed_outcome file exported.known stated ≡ value table
+    → table_outcome file exported.known stated ≡ value table
     → (table.known ≡ exported.known) × (stated ≡ Ok table.exports)
-unfolding addressed_outcome
+unfolding table_outcome
 was-addressed file exported (Ok es) table came =
     let same : ◌≡◌ {A = Table} (record { known = exported.known; exports = es }) table = cc in
     (ap (λ (t : Table). t.known) (sym same), ap (λ (t : Table). Ok t.exports) same)
@@ -133,7 +133,7 @@ added-came files map symvers table came =
     (reads-file (end (NoFile map)) map) came in
     let bytes : List ℕ = a.0 in
     let b
-    = given-on (table_outcome map (exports_of_map bytes)) (both_understood map symvers bytes)
+    = given-on (table_outcome map true (exports_of_map bytes)) (both_understood map symvers bytes)
     files table a.2 in
     let c
     = reads-on (reads_symvers symvers) (both_added map bytes) files table (only-symvers symvers)
@@ -142,7 +142,7 @@ added-came files map symvers table came =
     let stated = exports_with_addresses bytes exported.exports in
     let h
     = was-addressed map exported stated table
-    (given-came (addressed_outcome map exported.known stated) table files c.2) in
+    (given-came (table_outcome map exported.known stated) table files c.2) in
     record { exported = exported; read = c.1; bytes = bytes; known = h.0; added = h.1 }
 
 -- the kernel of a System.map is the same

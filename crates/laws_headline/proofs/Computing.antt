@@ -162,7 +162,7 @@ unfolding lib.Count.ones km_names_aliasform.normal_alias km_names_ascii.is_graph
     stages_files_kerneltable.table_outcome stages_files_modulefile.sections_outcome
     stages_loads_loads.load_outcome stages_loads_loads.entry_line stages_loads_modules.module_at
     stages_loads_modules.module_outcome stages_loads_tables.kernel_with
-    stages_loads_tables.machine_outcome stages_loads_tables.addressed_outcome
+    stages_loads_tables.machine_outcome
     modprobe_conf_rules.alias_rule modprobe_conf_rules.blacklist_rule
     modprobe_conf_rules.name_with_rest modprobe_conf_rules.softdep_rule
     modprobe_conf_rules.command_of modprobe_conf_rules.rule_of

@@ -1,5 +1,6 @@
 -- A load from the folder that a depmod left, computed.
 use Rattle.std.proofs.Common.{◌≡◌, ◌∙◌, ℕ, false, List, [], ◌∷◌, length, map, codes, refl, sym, ap}
+use Rattle.std.proofs.Common.{true}
 use Rattle.std.specs.Prelude.{Some, None, Ok, nat_lt, option_map, if◌then◌else◌}
 use Rattle.std.specs.Ordering.{nat_cmp}
 use Rattle.std.specs.Cmp.Lexicographic.{nat_list_cmp_total, slice_cmp}
@@ -269,10 +270,11 @@ map_path = codes "/S"
 
 map-read : ((reads_map map_path).run left).outcome ≡ value bare_table
 map-read =
-    on-value left (reads map_path) (λ bytes. given (table_outcome map_path (exports_of_map bytes)))
+    on-value left (reads map_path)
+    (λ bytes. given (table_outcome map_path true (exports_of_map bytes)))
     [] (reads-file (end (NoFile map_path)) map_path)
     (file-read (end (NoFile map_path)) map_path [] (left-get map_path) refl)
-    ∙ given-is (table_outcome map_path (exports_of_map [])) left
+    ∙ given-is (table_outcome map_path true (exports_of_map [])) left
     ∙ mapped
 
 machine-so : machine_outcome bare_table whole (unplaced []) ≡ value (start pages_of_region)
@@ -284,7 +286,8 @@ made-machine : ((reads_machine map_path None whole).run left).outcome
 made-machine =
     on-value left (reads_map map_path)
     (λ table. given (machine_outcome table whole (unplaced table.exports))) bare_table
-    (reads-then (reads map_path) (λ bytes. given (table_outcome map_path (exports_of_map bytes)))
+    (reads-then (reads map_path)
+    (λ bytes. given (table_outcome map_path true (exports_of_map bytes)))
     (reads-file (end (NoFile map_path)) map_path) (λ bytes. reads-given _))
     map-read
     ∙ given-is (machine_outcome bare_table whole (unplaced [])) left

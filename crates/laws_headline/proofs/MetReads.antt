@@ -1,5 +1,5 @@
 -- What depmod reads of the folder, computed.
-use Rattle.std.proofs.Common.{◌≡◌, ◌∙◌, ℕ, List, [], ◌∷◌, length, map, codes, refl, ap}
+use Rattle.std.proofs.Common.{◌≡◌, ◌∙◌, ℕ, List, [], ◌∷◌, length, map, codes, refl, ap, true}
 use Rattle.std.specs.Prelude.{Some, None, Ok}
 use Rattle.std.specs.Ordering.{nat_cmp}
 use Rattle.std.specs.Cmp.Lexicographic.{nat_list_cmp_total, slice_cmp}
@@ -104,18 +104,18 @@ chosen =
 abbrev table_path : List ℕ
 table_path = codes "/S"
 
-pub mapped : table_outcome table_path (exports_of_map []) ≡ value bare_table
+pub mapped : table_outcome table_path true (exports_of_map []) ≡ value bare_table
 unfolding computing
 mapped = refl
 
 pub tabled : ((reads_kernel (Some table_path) None).run found).outcome ≡ value bare_table
 tabled =
     on-value found (reads table_path)
-    (λ bytes. given (table_outcome table_path (exports_of_map bytes))) []
+    (λ bytes. given (table_outcome table_path true (exports_of_map bytes))) []
     (reads-file (end (NoFile table_path)) table_path)
     (ap (λ r. r.outcome) (run-read (end (NoFile table_path)) table_path found)
     ∙ ap (read_outcome (end (NoFile table_path)) table_path) (found-get table_path))
-    ∙ given-is (table_outcome table_path (exports_of_map [])) found
+    ∙ given-is (table_outcome table_path true (exports_of_map [])) found
     ∙ mapped
 
 abbrev built_in_path : List ℕ

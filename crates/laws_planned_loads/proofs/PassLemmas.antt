@@ -88,8 +88,7 @@ use Rattle.stages_loads.specs.Loads.{loads_all, loads_one, machine_image, params
 use Rattle.stages_loads.specs.Loads.{params_outcome, params_unless, puts_image, shows_image}
 use Rattle.stages_loads.specs.Loads.{shows_load, shows_params}
 use Rattle.stages_loads.specs.Modules.{file_outcome, module_outcome, reads_module}
-use Rattle.stages_loads.specs.Tables.{addressed_outcome, machine_outcome, reads_addressed}
-use Rattle.stages_loads.specs.Tables.{reads_machine, unplaced}
+use Rattle.stages_loads.specs.Tables.{machine_outcome, reads_addressed, reads_machine, unplaced}
 use Rattle.stages_loads.proofs.ListedSteps.{listed_found, listed_read}
 use Rattle.stages_loads.proofs.LoadSteps.{finished_shown, line_said, one_loaded, one_read}
 use Rattle.stages_loads.proofs.LoadSteps.{one_shown, params_shown}
@@ -195,7 +194,7 @@ module _ (held : Contents) (asked : ModprobeWords) where
 
   other-table : (file : List ℕ) (stated : Result (List KernelExport) ℕ)
       → ((number : ℕ) → Other (Refused (BadLine file number))) → (e : End)
-      → table_outcome file stated ≡ end e → Other e
+      → table_outcome file true stated ≡ end e → Other e
   unfolding table_outcome
   other-table file (Ok exports) own e is = absurd (no-end _ e is)
   other-table file (Err number) own e is
@@ -203,8 +202,8 @@ module _ (held : Contents) (asked : ModprobeWords) where
 
   other-addressed_table : (file : List ℕ) (known : Bool) (stated : Result (List KernelExport) ℕ)
       → ((number : ℕ) → Other (Refused (BadLine file number))) → (e : End)
-      → addressed_outcome file known stated ≡ end e → Other e
-  unfolding addressed_outcome
+      → table_outcome file known stated ≡ end e → Other e
+  unfolding table_outcome
   other-addressed_table file known (Ok exports) own e is = absurd (no-end _ e is)
   other-addressed_table file known (Err number) own e is
       = so-ends Other (Refused (BadLine file number)) e (own number) is
@@ -213,14 +212,14 @@ module _ (held : Contents) (asked : ModprobeWords) where
       → EndsIn Other (reads_map file)
   other-map file own =
       ends-then Other (reads file) (map_read file) (other-read file)
-      (λ bytes. ends-given Other (table_outcome file (exports_of_map bytes))
+      (λ bytes. ends-given Other (table_outcome file true (exports_of_map bytes))
       (other-table file (exports_of_map bytes) own))
 
   other-symvers : (file : List ℕ) → ((number : ℕ) → Other (Refused (BadLine file number)))
       → EndsIn Other (reads_symvers file)
   other-symvers file own =
       ends-then Other (reads file) (symvers_read file) (other-read file)
-      (λ bytes. ends-given Other (table_outcome file (exports_of_symvers bytes))
+      (λ bytes. ends-given Other (table_outcome file true (exports_of_symvers bytes))
       (other-table file (exports_of_symvers bytes) own))
 
   other-addressed : (map : List ℕ) (symvers : Option (List ℕ))
@@ -230,14 +229,14 @@ module _ (held : Contents) (asked : ModprobeWords) where
   other-addressed map None own named = other-map map own
   other-addressed map (Some symvers) own named =
       ends-then Other (reads map) (both_read map symvers) (other-read map) (λ bytes.
-      ends-then Other (given (table_outcome map (exports_of_map bytes)))
+      ends-then Other (given (table_outcome map true (exports_of_map bytes)))
       (both_understood map symvers bytes)
-      (ends-given Other (table_outcome map (exports_of_map bytes))
+      (ends-given Other (table_outcome map true (exports_of_map bytes))
       (other-table map (exports_of_map bytes) own)) (λ alone.
       ends-then Other (reads_symvers symvers) (both_added map bytes)
       (other-symvers symvers (λ number. named symvers number refl)) (λ exported.
       ends-given Other
-      (addressed_outcome map exported.known (exports_with_addresses bytes exported.exports))
+      (table_outcome map exported.known (exports_with_addresses bytes exported.exports))
       (other-addressed_table map exported.known (exports_with_addresses bytes exported.exports)
       own))))
 

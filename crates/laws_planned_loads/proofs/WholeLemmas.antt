@@ -57,7 +57,7 @@ pub only-addressed : (map : List ℕ) (symvers : Option (List ℕ))
 only-addressed map None = only-map map
 only-addressed map (Some symvers) =
     reads-then (reads map) (both_read map symvers) (reads-file (end (NoFile map)) map) (λ bytes.
-    reads-then (given (table_outcome map (exports_of_map bytes)))
+    reads-then (given (table_outcome map true (exports_of_map bytes)))
     (both_understood map symvers bytes) (reads-given _) (λ alone.
     reads-then (reads_symvers symvers) (both_added map bytes) (only-symvers symvers)
     (λ exported. reads-given _)))

@@ -20,33 +20,33 @@ use Rattle.stages_files.specs.KernelTable.{unknown_table, reads_map, reads_symve
 
 -- the stages after the bytes of a table were read
 abbrev pub map_read : List ℕ → List ℕ → Stage Table
-map_read file bytes = given (table_outcome file (exports_of_map bytes))
+map_read file bytes = given (table_outcome file true (exports_of_map bytes))
 
 abbrev pub symvers_read : List ℕ → List ℕ → Stage Table
-symvers_read file bytes = given (table_outcome file (exports_of_symvers bytes))
+symvers_read file bytes = given (table_outcome file true (exports_of_symvers bytes))
 
 -- a table that was read
 pub tabled : (file : List ℕ) (stated : Result (List KernelExport) ℕ) (kernel : Kernel)
     → kernel.known ≡ true → stated ≡ Ok kernel.exports
-    → table_outcome file stated ≡ value (table_of kernel)
+    → table_outcome file true stated ≡ value (table_of kernel)
 unfolding table_outcome
 tabled file stated kernel known is =
-    ap (table_outcome file) is
+    ap (table_outcome file true) is
     ∙ ap (λ k. value (record { known = k; exports = kernel.exports })) (sym known)
 
 -- a fault of a table is its first line that isn't understood, or out of memory
 pub tabled_not : (file : List ℕ) (stated : Result (List KernelExport) ℕ) (fault : KernelFault)
     (stop : Stop)
     → (fault ≡ Memory) ⊎ (option_map BadKernelLine (result_err stated) ≡ Some fault)
-    → stop ≡ table_stop file fault → Answers table_of (table_outcome file stated) (Err stop)
+    → stop ≡ table_stop file fault → Answers table_of (table_outcome file true stated) (Err stop)
 unfolding table_outcome
 tabled_not file stated Memory stop cause is =
-    subst (λ s. Answers table_of (table_outcome file stated) (Err s)) (sym is) tt
+    subst (λ s. Answers table_of (table_outcome file true stated) (Err s)) (sym is) tt
 tabled_not file stated (BadKernelLine line) stop (inl m) is = cc
 tabled_not file (Ok exports) (BadKernelLine line) stop (inr f) is = cc
 tabled_not file (Err number) (BadKernelLine line) stop (inr f) is =
     let same : number ≡ line = cc in
-    subst (λ s. Answers table_of (table_outcome file (Err number)) (Err s)) (sym is)
+    subst (λ s. Answers table_of (table_outcome file true (Err number)) (Err s)) (sym is)
     (ap (λ n. end (Refused (BadLine file n))) same)
 
 -- what the choice of a file comes to

@@ -34,10 +34,10 @@ abbrev pub unknown_table : Table
 unknown_table = record { known = false; exports = [] }
 
 -- The outcome of a file that states these exports, or whose first line that isn't understood has
--- this number: its table, or the refusal of the line.
-unfoldable pub table_outcome : List ℕ → Result (List KernelExport) ℕ → Outcome Table
-table_outcome file (Ok exports) = value (record { known = true; exports = exports })
-table_outcome file (Err number) = end (Refused (BadLine file number))
+-- this number: a table with the exports, which is known or isn't, or the refusal of the line.
+unfoldable pub table_outcome : List ℕ → Bool → Result (List KernelExport) ℕ → Outcome Table
+table_outcome file known (Ok exports) = value (record { known = known; exports = exports })
+table_outcome file known (Err number) = end (Refused (BadLine file number))
 
 -- The stop of a command for a fault of a file's table.
 abbrev pub table_stop : List ℕ → KernelFault → Stop
@@ -48,13 +48,13 @@ table_stop file Memory = Wanting
 abbrev pub reads_map : List ℕ → Stage Table
 reads_map file = do
   bytes ← reads file
-  given (table_outcome file (exports_of_map bytes))
+  given (table_outcome file true (exports_of_map bytes))
 
 -- The table of the Module.symvers at the path, which is needed.
 abbrev pub reads_symvers : List ℕ → Stage Table
 reads_symvers file = do
   bytes ← reads file
-  given (table_outcome file (exports_of_symvers bytes))
+  given (table_outcome file true (exports_of_symvers bytes))
 
 -- The table of a System.map or of a Module.symvers, if one of them is named. Otherwise the kernel
 -- isn't known.

@@ -1,5 +1,5 @@
 // The table of the kernel, by its System.map or its Module.symvers.
-ghost use Rattle.std.specs.Prelude.{◌≡◌, ◌≤◌, length};
+ghost use Rattle.std.specs.Prelude.{◌≡◌, ◌≤◌, length, true};
 ghost use Rattle.km_names.specs.Limit.{file_limit};
 ghost use Rattle.km_course.specs.Follows.{Answers};
 ghost use Rattle.km_course.specs.FollowsOn.{FollowsOnFilesAs};
@@ -64,7 +64,7 @@ pub fn stop_of_table(fault: KernelFault, file: PathText) -> Stop
 /// Returns the table of a System.map of these bytes, or the refusal of the file at the path.
 fn map_table(alloc: Global, bytes: Blob, file: PathText) -> Result<Kernel, Stop>
     requires { length bytes ≤ file_limit }
-    ensures { Answers table_of (table_outcome file (exports_of_map bytes)) result }
+    ensures { Answers table_of (table_outcome file true (exports_of_map bytes)) result }
 {
     match Kernel::from_map(alloc, bytes.as_bytes()) {
         Ok(kernel) => Ok(kernel),
@@ -75,7 +75,7 @@ fn map_table(alloc: Global, bytes: Blob, file: PathText) -> Result<Kernel, Stop>
 /// Returns the table of a Module.symvers of these bytes, or the refusal of the file at the path.
 fn symvers_table(alloc: Global, bytes: Blob, file: PathText) -> Result<Kernel, Stop>
     requires { length bytes ≤ file_limit }
-    ensures { Answers table_of (table_outcome file (exports_of_symvers bytes)) result }
+    ensures { Answers table_of (table_outcome file true (exports_of_symvers bytes)) result }
 {
     match Kernel::from_symvers(alloc, bytes.as_bytes()) {
         Ok(kernel) => Ok(kernel),

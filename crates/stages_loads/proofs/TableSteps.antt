@@ -26,13 +26,12 @@ use Rattle.km_course.specs.declared.refusal.Refusal.TheVariants.{KernelWithoutAd
 use Rattle.km_course.specs.declared.stop.Stop.{Stop}
 use Rattle.stages_files.specs.KernelTable.{Table, table_of, table_outcome, table_stop}
 use Rattle.stages_files.specs.KernelTable.{reads_symvers}
-use Rattle.stages_loads.specs.Tables.{addressed_outcome, kernel_with, machine_outcome, table_of_map}
-use Rattle.stages_loads.specs.Tables.{unplaced}
+use Rattle.stages_loads.specs.Tables.{kernel_with, machine_outcome, table_of_map, unplaced}
 
 -- the stage after the Module.symvers was read
 abbrev pub both_added : List ℕ → List ℕ → Table → Stage Table
 both_added map bytes exported =
-    given (addressed_outcome map exported.known (exports_with_addresses bytes exported.exports))
+    given (table_outcome map exported.known (exports_with_addresses bytes exported.exports))
 
 -- the stage after the System.map was understood
 abbrev pub both_understood : List ℕ → List ℕ → List ℕ → Table → Stage Table
@@ -41,7 +40,7 @@ both_understood map symvers bytes alone = reads_symvers symvers >>= both_added m
 -- the stage after the System.map was read
 abbrev pub both_read : List ℕ → List ℕ → List ℕ → Stage Table
 both_read map symvers bytes =
-    given (table_outcome map (exports_of_map bytes)) >>= both_understood map symvers bytes
+    given (table_outcome map true (exports_of_map bytes)) >>= both_understood map symvers bytes
 
 -- the stage after the tables were read
 abbrev pub made : Region → Table → Stage Machine
@@ -50,10 +49,10 @@ made region table = given (machine_outcome table region (unplaced table.exports)
 -- a System.map that was understood
 pub mapped : (file bytes : List ℕ) (symbols : List MapSymbol) → symbols ≡ stated map_line bytes
     → refused_line map_line bytes ≡ None
-    → table_outcome file (exports_of_map bytes) ≡ value (table_of_map symbols)
+    → table_outcome file true (exports_of_map bytes) ≡ value (table_of_map symbols)
 unfolding table_outcome exports_of_map
 mapped file bytes symbols is passed =
-    ap (λ refused. table_outcome file
+    ap (λ refused. table_outcome file true
     (unless_fault refused (table_of_map (stated map_line bytes)).exports)) passed
     ∙ ap (λ ss. value (table_of_map ss)) (sym is)
 
@@ -67,15 +66,17 @@ line-is (Some number) line is =
 pub mapped_not : (file bytes : List ℕ) (fault : KernelFault) (stop : Stop)
     → (fault ≡ Memory) ⊎ (option_map BadKernelLine (refused_line map_line bytes) ≡ Some fault)
     → stop ≡ table_stop file fault
-    → Answers table_of_map (table_outcome file (exports_of_map bytes)) (Err stop)
+    → Answers table_of_map (table_outcome file true (exports_of_map bytes)) (Err stop)
 unfolding table_outcome exports_of_map
 mapped_not file bytes Memory stop cause is =
-    subst (λ s. Answers table_of_map (table_outcome file (exports_of_map bytes)) (Err s)) (sym is)
+    subst (λ s. Answers table_of_map (table_outcome file true (exports_of_map bytes)) (Err s))
+    (sym is)
     tt
 mapped_not file bytes (BadKernelLine line) stop (inl m) is = cc
 mapped_not file bytes (BadKernelLine line) stop (inr f) is =
-    subst (λ s. Answers table_of_map (table_outcome file (exports_of_map bytes)) (Err s)) (sym is)
-    (ap (λ refused. table_outcome file
+    subst (λ s. Answers table_of_map (table_outcome file true (exports_of_map bytes)) (Err s))
+    (sym is)
+    (ap (λ refused. table_outcome file true
     (unless_fault refused (table_of_map (stated map_line bytes)).exports))
     (line-is (refused_line map_line bytes) line f))
 
@@ -83,11 +84,11 @@ mapped_not file bytes (BadKernelLine line) stop (inr f) is =
 pub addressed : (file bytes : List ℕ) (symbols : List MapSymbol) (exported kernel : Kernel)
     → symbols ≡ stated map_line bytes → refused_line map_line bytes ≡ None
     → kernel.known ≡ exported.known → kernel.exports ≡ with_addresses symbols exported.exports
-    → addressed_outcome file exported.known (exports_with_addresses bytes exported.exports)
+    → table_outcome file exported.known (exports_with_addresses bytes exported.exports)
     ≡ value (table_of kernel)
-unfolding addressed_outcome exports_with_addresses
+unfolding table_outcome exports_with_addresses
 addressed file bytes symbols exported kernel is passed known exports =
-    ap (λ refused. addressed_outcome file exported.known
+    ap (λ refused. table_outcome file exported.known
     (unless_fault refused (with_addresses (stated map_line bytes) exported.exports))) passed
     ∙ ap (λ es. value (record { known = exported.known; exports = es }))
     (ap (λ ss. with_addresses ss exported.exports) (sym is) ∙ sym exports)

@@ -1,6 +1,6 @@
 -- The machine that a kernel's tables make: its exports at their addresses, and no module. nm(1);
 -- the kernel's Documentation/kbuild/modules.rst, "Module.symvers".
-use Rattle.std.specs.Prelude.{ℕ, true, Bool, List, find, Option, is_none, Some, None, Result, Ok, Err}
+use Rattle.std.specs.Prelude.{ℕ, true, List, find, Option, is_none, Some, None}
 use Rattle.std.specs.List.{filter_map}
 use Rattle.kernel_exports.specs.declared.kernel.Kernel.{Kernel}
 use Rattle.kernel_exports.specs.declared.kernel.KernelExport.{KernelExport}
@@ -13,7 +13,7 @@ use Rattle.model_loader.specs.Machine.{Machine, new_machine}
 use Rattle.km_course.specs.Course.{Outcome, Stage, ◌>>=◌, given, reads}
 use Rattle.km_course.specs.Course.Outcome.{value, end}
 use Rattle.km_course.specs.declared.end.End.TheVariants.{Refused}
-use Rattle.km_course.specs.declared.refusal.Refusal.TheVariants.{BadLine, KernelWithoutAddress}
+use Rattle.km_course.specs.declared.refusal.Refusal.TheVariants.{KernelWithoutAddress}
 use Rattle.stages_files.specs.KernelTable.{Table, table_outcome, reads_map, reads_symvers}
 
 -- The kernel of a table. A kernel exports each name once: of the exports of one name the first
@@ -43,12 +43,6 @@ table_of_map symbols = record {
   exports = with_addresses symbols (first_of_each (filter_map export_of_symbol symbols));
 }
 
--- What a file that states these addresses of exports, or whose first line that isn't understood has
--- this number, results in: the table with them, or the refusal of the line.
-unfoldable pub addressed_outcome : List ℕ → Bool → Result (List KernelExport) ℕ → Outcome Table
-addressed_outcome file known (Ok exports) = value (record { known = known; exports = exports })
-addressed_outcome file known (Err number) = end (Refused (BadLine file number))
-
 -- The exports of a kernel at their addresses. If a Module.symvers is named, they are its exports,
 -- and otherwise the System.map's. The System.map is read and understood before the Module.symvers
 -- is read, and its addresses are added after.
@@ -56,9 +50,9 @@ abbrev pub reads_addressed : List ℕ → Option (List ℕ) → Stage Table
 reads_addressed map None = reads_map map
 reads_addressed map (Some symvers) = do
   bytes ← reads map
-  alone ← given (table_outcome map (exports_of_map bytes))
+  alone ← given (table_outcome map true (exports_of_map bytes))
   exported ← reads_symvers symvers
-  given (addressed_outcome map exported.known (exports_with_addresses bytes exported.exports))
+  given (table_outcome map exported.known (exports_with_addresses bytes exported.exports))
 
 -- The machine of a kernel, into whose region modules are to be loaded.
 abbrev pub reads_machine : List ℕ → Option (List ℕ) → Region → Stage Machine

@@ -1,5 +1,5 @@
 // The machine that a kernel's tables make.
-ghost use Rattle.std.specs.Prelude.{◌≡◌, ◌≤◌, None, Some, IfOk, OnOk, length};
+ghost use Rattle.std.specs.Prelude.{◌≡◌, ◌≤◌, None, Some, IfOk, OnOk, length, true};
 ghost use Rattle.km_names.specs.Limit.{file_limit};
 ghost use Rattle.km_course.specs.Follows.{Answers};
 ghost use Rattle.km_course.specs.FollowsOn.{FollowsOnFiles, FollowsOnFilesAs, Returns};
@@ -73,7 +73,8 @@ fn read_both<F: Reads>(
 /// Returns the System.map of these bytes, or the refusal of the file at the path.
 fn understood_map<'a>(alloc: Global, file: PathText, bytes: &'a Blob) -> Result<SystemMap<'a>, Stop>
     requires { length bytes.now ≤ file_limit }
-    ensures answer { Answers table_of_map (table_outcome file (exports_of_map bytes.now)) result }
+    ensures answer { Answers table_of_map
+        (table_outcome file true (exports_of_map bytes.now)) result }
     ensures symbols { IfOk result (λ map. map ≡ stated map_line bytes.now) }
     ensures passed { OnOk result (refused_line map_line bytes.now ≡ None) }
 {

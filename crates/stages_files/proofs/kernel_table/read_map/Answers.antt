@@ -1,3 +1,4 @@
+use Rattle.std.specs.Prelude.{true}
 use Rattle.std.proofs.lemmas.Result.{err_from_is_err_and}
 use Rattle.kernel_exports.specs.KernelTable.{exports_of_map}
 use Rattle.km_course.proofs.Steps.{next, exits, answered}
@@ -13,5 +14,5 @@ returns-in_err-bytes g c = λ out err.
 pub returns : goal.returns
 returns g c = λ out err.
     next (map_read c.args.file) (c.in_ok-bytes.ensures.follows out err)
-    (answered table_of (table_outcome c.args.file (exports_of_map c.in_ok-bytes.bytes)) _
+    (answered table_of (table_outcome c.args.file true (exports_of_map c.in_ok-bytes.bytes)) _
     c.map_table.result c.map_table.ensures)

@@ -1,4 +1,4 @@
-use Rattle.std.proofs.Common.{ap, subst, sym, ◌∙◌}
+use Rattle.std.proofs.Common.{ap, subst, sym, ◌∙◌, true}
 use Rattle.std.specs.Prelude.{Err}
 use Rattle.kernel_exports.specs.KernelTable.{exports_of_symvers}
 use Rattle.km_course.specs.Follows.{Answers}
@@ -13,7 +13,7 @@ returns-in-Ok c =
 
 pub returns : goal.returns
 returns c =
-    subst (λ bytes. Answers table_of (table_outcome c.args.file (exports_of_symvers bytes))
+    subst (λ bytes. Answers table_of (table_outcome c.args.file true (exports_of_symvers bytes))
     (Err c.stop_of_table.result)) c.as_bytes.ensures
     (tabled_not c.args.file _ c.in-Err.fault c.stop_of_table.result c.in-Err.ensures.err
     c.stop_of_table.ensures)

@@ -1,4 +1,4 @@
-use Rattle.std.proofs.Common.{◌≡◌, None, Some, ap, sym, subst, inl, inr, ◌∙◌}
+use Rattle.std.proofs.Common.{◌≡◌, None, Some, ap, sym, subst, inl, inr, ◌∙◌, true}
 use Rattle.std.specs.Prelude.{Err}
 use Rattle.kernel_exports.specs.KernelTable.{exports_of_map}
 use Rattle.kernel_exports.specs.MapLines.{map_line}
@@ -17,7 +17,7 @@ returns-in-Ok-clause-answer c =
 
 pub returns-in-Err-clause-answer : goal.returns-in-Err-clause-answer
 returns-in-Err-clause-answer c =
-    subst (λ bytes. Answers table_of_map (table_outcome c.args.file (exports_of_map bytes))
+    subst (λ bytes. Answers table_of_map (table_outcome c.args.file true (exports_of_map bytes))
     (Err c.stop_of_table.result)) c.as_bytes.ensures
     (mapped_not c.args.file _ c.in-Err.fault c.stop_of_table.result c.in-Err.ensures.err
     c.stop_of_table.ensures)
