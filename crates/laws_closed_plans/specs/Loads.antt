@@ -1,16 +1,11 @@
 -- Loads of modules, one after the other.
-use Rattle.std.specs.Prelude.{◌≡◌, ℕ, List, [], ◌∷◌, ◌++◌, Result, Ok, Err}
+use Rattle.std.specs.Prelude.{◌≡◌, ℕ, List, [], ◌∷◌, ◌++◌, Result, Ok}
 use Rattle.module_facts.specs.declared.module.Module.{Module}
 use Rattle.model_loader.specs.declared.fault.LoadFault.{LoadFault}
 use Rattle.model_loader.specs.declared.fault.LoadFault.TheVariants.{RegionFull, Overflow}
 use Rattle.model_loader.specs.Machine.{Machine}
 use Rattle.model_loader.specs.Step.{step}
-
--- The next result, unless a load was refused.
-abbrev pub unless_refused : (Machine → Result Machine LoadFault) → Result Machine LoadFault
-    → Result Machine LoadFault
-unless_refused next (Ok machine) = next machine
-unless_refused next (Err fault) = Err fault
+pub use Rattle.model_loader.specs.Chain.{unless_refused}
 
 -- The machine after modules were loaded one after the other, or the first refusal.
 abbrev pub load_all : Machine → List Module → Result Machine LoadFault

@@ -10,3 +10,4 @@ pub mod Parts
 pub mod Kept
 pub mod Use
 pub mod Uses
+pub mod Chain

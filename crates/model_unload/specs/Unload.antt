@@ -4,6 +4,7 @@ use Rattle.std.specs.Prelude.{Option, Result, Ok, Err}
 use Rattle.std.specs.List.{IsDistinct}
 use Rattle.std.specs.Option.{option_map_or}
 use Rattle.std.specs.Str.{bytes_eq}
+pub use Rattle.model_loader.specs.Chain.{unless_refused}
 use Rattle.model_loader.specs.Machine.{Machine}
 use Rattle.model_loader.specs.Sound.{entry_names}
 use Rattle.model_loader.specs.Use.{AreUnused, binds, name_at, places, without, without_all}
@@ -31,12 +32,6 @@ unloaded_at machine j =
 
 abbrev pub unloaded : Machine → List ℕ → Result Machine UnloadFault
 unloaded machine name = option_map_or (unloaded_at machine) (place_of machine name) (Err NotLoaded)
-
--- The next result, unless a module was refused.
-abbrev pub unless_refused : (Machine → Result Machine UnloadFault) → Result Machine UnloadFault
-    → Result Machine UnloadFault
-unless_refused next (Ok machine) = next machine
-unless_refused next (Err fault) = Err fault
 
 -- The machine after the modules of these names were removed one after the other, or the first
 -- refusal.
