@@ -8,9 +8,9 @@ use Rattle.index_read.specs.Contents.{contents, wild_values}
 use Rattle.name_table.specs.FirstSeen.{first_seen}
 use Rattle.kmod_words.specs.declared.builtin_alias.BuiltinAliasWords.{BuiltinAliasWords}
 use Rattle.kmod_words.specs.BuiltinAlias.{builtin_alias_request}
-use Rattle.km_course.specs.Course.{Outcome, Stage, ◌>>=◌, given, ends, says_any}
+use Rattle.km_course.specs.Course.{Outcome, Stage, ◌>>=◌, given, says_any, if_understood}
 use Rattle.km_course.specs.Course.Outcome.{value, end}
-use Rattle.km_course.specs.declared.end.End.TheVariants.{NotUnderstood, Refused}
+use Rattle.km_course.specs.declared.end.End.TheVariants.{Refused}
 use Rattle.km_course.specs.declared.refusal.Refusal.TheVariants.{NotFound}
 use Rattle.stages_files.specs.IndexFile.{reads_index}
 use Rattle.stages_files.specs.KernelModules.{modules_folder}
@@ -41,11 +41,6 @@ shows_names asked = do
   text ← given (found_outcome index asked.name)
   says_any text
 
--- the course of what the words ask for
-abbrev pub builtin_alias_asked_for : Option BuiltinAliasWords → Stage ⊤
-builtin_alias_asked_for None = ends NotUnderstood
-builtin_alias_asked_for (Some asked) = shows_names asked
-
 -- The course of `builtin-alias` with these words after it.
 abbrev pub builtin_alias_course : List (List ℕ) → Stage ⊤
-builtin_alias_course words = builtin_alias_asked_for (builtin_alias_request words)
+builtin_alias_course words = if_understood shows_names (builtin_alias_request words)

@@ -1,11 +1,10 @@
 -- The course of `depmod`. depmod(8).
-use Rattle.std.specs.Prelude.{ℕ, List, Option, Some, None, is_some, ⊤}
+use Rattle.std.specs.Prelude.{ℕ, List, Option, is_some, ⊤}
 use Rattle.symbol_binding.specs.Unmet.{unmet}
 use Rattle.provider_rel.specs.Faces.{modules_of}
 use Rattle.kmod_words.specs.declared.depmod.DepmodWords.{DepmodWords}
 use Rattle.kmod_words.specs.Depmod.{depmod_request}
-use Rattle.km_course.specs.Course.{Stage, ◌>>=◌, given, ends}
-use Rattle.km_course.specs.declared.end.End.TheVariants.{NotUnderstood}
+use Rattle.km_course.specs.Course.{Stage, ◌>>=◌, given, if_understood}
 use Rattle.stages_files.specs.KernelModules.{modules_folder}
 use Rattle.stages_files.specs.KernelTable.{reads_kernel, seen_kernel}
 use Rattle.command_depmod.specs.declared.course.Wanted.{Wanted}
@@ -64,11 +63,6 @@ indexes asked = do
   tree ← reads_related (modules_of_request asked) asked.config asked.filesyms asked.symvers
   indexes_tree (wanted_of asked) (modules_of_request asked) (target_of_request asked) tree
 
--- the course of what the words ask for
-abbrev pub depmod_asked_for : Option DepmodWords → Stage ⊤
-depmod_asked_for None = ends NotUnderstood
-depmod_asked_for (Some asked) = indexes asked
-
 -- The course of `depmod` with these words after it.
 abbrev pub depmod_course : List (List ℕ) → Stage ⊤
-depmod_course words = depmod_asked_for (depmod_request words)
+depmod_course words = if_understood indexes (depmod_request words)

@@ -5,9 +5,9 @@ use Rattle.kmod_words.specs.declared.modinfo.ModinfoWords.{ModinfoWords}
 use Rattle.kmod_words.specs.Modinfo.{modinfo_request}
 use Rattle.modinfo_tool.specs.declared.text.ShowOptions.{ShowOptions}
 use Rattle.modinfo_tool.specs.Show.{shown_text}
-use Rattle.km_course.specs.Course.{Outcome, Stage, ◌>>=◌, given, gives, ends, each_from, says_any}
+use Rattle.km_course.specs.Course.{Outcome, Stage, ◌>>=◌, given, gives, each_from, says_any}
 use Rattle.km_course.specs.Course.Outcome.{value}
-use Rattle.km_course.specs.declared.end.End.TheVariants.{NotUnderstood}
+use Rattle.km_course.specs.Course.{if_understood}
 use Rattle.command_modinfo.specs.declared.course.Source.{Source}
 use Rattle.command_modinfo.specs.declared.course.Source.TheVariants.{Paths, Names}
 use Rattle.stages_files.specs.ModuleFile.{reads_sections}
@@ -53,11 +53,6 @@ shows_asked asked = do
   source ← reads_source asked.version asked.basedir
   shows_each source (options_asked asked) asked.words
 
--- the course of what the words ask for
-abbrev pub modinfo_asked_for : Option ModinfoWords → Stage ⊤
-modinfo_asked_for None = ends NotUnderstood
-modinfo_asked_for (Some asked) = shows_asked asked
-
 -- The course of `modinfo` with these words after it.
 abbrev pub modinfo_course : List (List ℕ) → Stage ⊤
-modinfo_course words = modinfo_asked_for (modinfo_request words)
+modinfo_course words = if_understood shows_asked (modinfo_request words)

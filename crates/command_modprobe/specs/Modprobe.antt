@@ -1,5 +1,5 @@
 -- The course of `modprobe`. modprobe(8).
-use Rattle.std.specs.Prelude.{ℕ, ◌||◌, List, Option, Some, None, T, is_some, not, ⊤}
+use Rattle.std.specs.Prelude.{ℕ, ◌||◌, List, T, is_some, not, ⊤}
 use Rattle.std.proofs.Math.Facts.{and_yes}
 use Rattle.kmod_words.specs.declared.modprobe.Mode.{Mode}
 use Rattle.kmod_words.specs.declared.modprobe.Mode.TheVariants.{Load, DryRun, ShowDepends}
@@ -7,8 +7,7 @@ use Rattle.kmod_words.specs.declared.modprobe.Mode.TheVariants.{ResolveAlias, Re
 use Rattle.kmod_words.specs.declared.modprobe.ModprobeWords.{ModprobeWords}
 use Rattle.kmod_words.specs.Modes.{given_map, goes_with}
 use Rattle.kmod_words.specs.Modprobe.{modprobe_request}
-use Rattle.km_course.specs.Course.{Stage, ends}
-use Rattle.km_course.specs.declared.end.End.TheVariants.{NotUnderstood}
+use Rattle.km_course.specs.Course.{Stage, if_understood}
 use Rattle.command_remove.specs.Remove.{removes}
 use Rattle.command_modprobe.specs.Resolved.{resolves_alias}
 use Rattle.command_modprobe.specs.Planned.{shows_plan}
@@ -27,11 +26,10 @@ modprobe_in_mode (Remove dry_run) asked fits =
     (given_map asked.system_map
     (and_yes (is_some asked.system_map) (not (is_some asked.image || asked.params)) fits).0)
 
--- the course of what the words ask for
-abbrev pub modprobe_asked_for : Option ModprobeWords → Stage ⊤
-modprobe_asked_for None = ends NotUnderstood
-modprobe_asked_for (Some asked) = modprobe_in_mode asked.mode asked asked.fits
+-- The course of a request, in its mode.
+abbrev pub modprobe_requested : ModprobeWords → Stage ⊤
+modprobe_requested asked = modprobe_in_mode asked.mode asked asked.fits
 
 -- The course of `modprobe` with these words after it.
 abbrev pub modprobe_course : List (List ℕ) → Stage ⊤
-modprobe_course words = modprobe_asked_for (modprobe_request words)
+modprobe_course words = if_understood modprobe_requested (modprobe_request words)

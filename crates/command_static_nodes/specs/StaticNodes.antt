@@ -1,12 +1,11 @@
 -- The course of `static-nodes`. kmod(8), "static-nodes".
-use Rattle.std.specs.Prelude.{ℕ, List, Option, Some, None, ⊤, codes}
+use Rattle.std.specs.Prelude.{ℕ, List, ⊤, codes}
 use Rattle.km_names.specs.Path.{path_below}
 use Rattle.kmod_words.specs.declared.static_nodes.StaticNodesWords.{StaticNodesWords}
 use Rattle.kmod_words.specs.StaticNodes.{static_nodes_request}
 use Rattle.devname_nodes.specs.declared.node.Node.{Node}
 use Rattle.devname_nodes.specs.File.{node_lines, read_of}
-use Rattle.km_course.specs.Course.{Stage, ◌>>=◌, given, reads, ends, says_any}
-use Rattle.km_course.specs.declared.end.End.TheVariants.{NotUnderstood}
+use Rattle.km_course.specs.Course.{Stage, ◌>>=◌, given, reads, says_any, if_understood}
 use Rattle.stages_files.specs.Configuration.{stated_outcome}
 use Rattle.stages_files.specs.KernelModules.{modules_folder}
 
@@ -23,11 +22,6 @@ shows_nodes asked = do
       (path_below (modules_folder asked.dirname asked.version) (codes "modules.devname"))
   says_any (node_lines nodes)
 
--- the course of what the words ask for
-abbrev pub static_nodes_asked_for : Option StaticNodesWords → Stage ⊤
-static_nodes_asked_for None = ends NotUnderstood
-static_nodes_asked_for (Some asked) = shows_nodes asked
-
 -- The course of `static-nodes` with these words after it.
 abbrev pub static_nodes_course : List (List ℕ) → Stage ⊤
-static_nodes_course words = static_nodes_asked_for (static_nodes_request words)
+static_nodes_course words = if_understood shows_nodes (static_nodes_request words)

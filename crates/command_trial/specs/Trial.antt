@@ -1,10 +1,9 @@
 -- The course of `trial`: a tree is made, indexed and loaded, and a summary is printed. The command
 -- is this project's own.
-use Rattle.std.specs.Prelude.{ℕ, List, Option, Some, None, ⊤}
+use Rattle.std.specs.Prelude.{ℕ, List, ⊤}
 use Rattle.km_outside.specs.Contents.{Contents}
-use Rattle.km_course.specs.Course.{Stage, ◌>>=◌, ends, says}
+use Rattle.km_course.specs.Course.{Stage, ◌>>=◌, says, if_understood}
 use Rattle.km_course.specs.Inner.{Left, inner}
-use Rattle.km_course.specs.declared.end.End.TheVariants.{NotUnderstood}
 use Rattle.kmod_words.specs.declared.trial.TrialWords.{TrialWords}
 use Rattle.kmod_words.specs.Trial.{trial_request}
 use Rattle.tree_gen.specs.Trial.{trial_contents}
@@ -33,12 +32,7 @@ tries asked = do
   left ← loads_made asked.count indexed.files
   says (summary asked.count (dependencies_left indexed.files) left)
 
--- the course of what the words ask for
-abbrev pub trial_asked_for : Option TrialWords → Stage ⊤
-trial_asked_for None = ends NotUnderstood
-trial_asked_for (Some asked) = tries asked
-
 -- The course of `trial` with these words after it. No act but the summary is done on the objects
 -- outside.
 abbrev pub trial_course : List (List ℕ) → Stage ⊤
-trial_course words = trial_asked_for (trial_request words)
+trial_course words = if_understood tries (trial_request words)

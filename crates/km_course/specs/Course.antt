@@ -7,7 +7,7 @@ use Rattle.km_outside.specs.Contents.{Contents, by_bytes, listed, is_path, is_co
 use Rattle.km_names.specs.Limit.{file_limit}
 use Rattle.km_outside.specs.FilesSeen.{list_limit}
 use Rattle.km_course.specs.declared.end.End.{End}
-use Rattle.km_course.specs.declared.end.End.TheVariants.{NoFile, TooLarge}
+use Rattle.km_course.specs.declared.end.End.TheVariants.{NoFile, NotUnderstood, TooLarge}
 
 -- One act: reading a file, listing a folder, writing bytes to the output, writing bytes to err, or
 -- putting a file of these bytes at a path.
@@ -97,6 +97,11 @@ gives x = given (value x)
 -- No act, and this end.
 abbrev pub ends : {X : Type 0} → End → Stage X
 ends e = given (end e)
+
+-- The course of what words ask for, if they are understood.
+abbrev pub if_understood : {A : Type 0} → (A → Stage ⊤) → Option A → Stage ⊤
+if_understood course None = ends NotUnderstood
+if_understood course (Some asked) = course asked
 
 infix 1 when◌then◌else◌
 -- The first stage if the test holds, and otherwise the second.

@@ -5,7 +5,7 @@ use Rattle.std.specs.Prelude.{Some, Ok, IfErr, ⊤}
 use Rattle.std.specs.List.{list_all}
 use Rattle.km_outside.specs.Contents.{Contents}
 use Rattle.km_course.specs.Carries.{Carries, outcome_line, outcome_status, whole_acts}
-use Rattle.km_course.specs.Course.{Act, Outcome, Run}
+use Rattle.km_course.specs.Course.{Act, Outcome, Run, if_understood}
 use Rattle.km_course.specs.Lines.{end_line}
 use Rattle.km_course.specs.World.{World, Shown, done}
 use Rattle.km_course.specs.declared.end.End.TheVariants.{Refused}
@@ -22,7 +22,7 @@ use Rattle.laws_closed_plans.proofs.LoadLemmas.{load-append}
 use Rattle.stages_loads.specs.declared.load.Insertion.{Insertion}
 use Rattle.stages_loads.specs.Loads.{ShownImage, loads_all}
 use Rattle.command_modprobe.specs.Loaded.{images_asked, loads_plan}
-use Rattle.command_modprobe.specs.Modprobe.{modprobe_asked_for, modprobe_course}
+use Rattle.command_modprobe.specs.Modprobe.{modprobe_requested, modprobe_course}
 use Rattle.command_modprobe.proofs.CourseSteps.{is-map, loads-in}
 use Rattle.command_modprobe.specs.Planned.{plan_lines}
 use Rattle.laws_planned_loads.specs.Acts.{is_reading, said}
@@ -48,7 +48,7 @@ load-course : (held : Contents) (words : List (List ℕ)) (asked : ModprobeWords
     → modprobe_course words ≡ loads_plan asked s.machine.map
 load-course held words asked l is s =
     let has = s.machine in
-    ap modprobe_asked_for is
+    ap (if_understood modprobe_requested) is
     ∙ loads-in asked has.map asked.mode s.mode (is-map asked.system_map has.map has.mapped)
     asked.fits
 

@@ -4,7 +4,7 @@ use Rattle.std.proofs.Common.{◌≡◌, ◌∙◌, ℕ, ◌≤◌, List, [], �
 use Rattle.std.proofs.Common.{append-nil}
 use Rattle.std.specs.Prelude.{Option, Some, ⊤}
 use Rattle.km_course.specs.Carries.{Carries, outcome_status, whole_acts}
-use Rattle.km_course.specs.Course.{Outcome, Run, ends}
+use Rattle.km_course.specs.Course.{Outcome, Run, ends, if_understood}
 use Rattle.km_course.specs.Course.Outcome.{value, end}
 use Rattle.km_course.specs.Lines.{end_status, usage}
 use Rattle.km_course.specs.World.{World, Shown, Tells, done}
@@ -13,7 +13,7 @@ use Rattle.km_course.specs.declared.end.End.TheVariants.{Refused, NotUnderstood,
 use Rattle.km_course.specs.declared.end.End.TheVariants.{Inner}
 use Rattle.kmod_words.specs.declared.depmod.DepmodWords.{DepmodWords}
 use Rattle.kmod_words.specs.Depmod.{depmod_request}
-use Rattle.command_depmod.specs.Depmod.{depmod_asked_for, depmod_course}
+use Rattle.command_depmod.specs.Depmod.{indexes, depmod_course}
 use Rattle.laws_planned_loads.proofs.RunLemmas.{run-given, run_of}
 use Rattle.laws_depmod_leaves.specs.Comes.{IndexedTree}
 use Rattle.laws_depmod_leaves.specs.Course.{IsIndexingCourse, closes}
@@ -43,7 +43,7 @@ closes-status (end e) = refl
 none-asked : (words : List (List ℕ)) (shown : Shown) → depmod_request words ≡ None
     → (depmod_course words).run shown.files ≡ run_of [] (end NotUnderstood)
 none-asked words shown none =
-    ap (λ request. (depmod_asked_for request).run shown.files) none
+    ap (λ request. (if_understood indexes request).run shown.files) none
     ∙ run-given (end NotUnderstood) shown.files
 
 pub indexes-law : (words : List (List ℕ)) (old new : World) (status : ℕ)
@@ -54,7 +54,7 @@ indexes-law words old new status c = record {
       let run : Run ⊤ = course.run shown.files in
       let h : IsIndexingCourse shown.files asked run =
       subst (λ request. IsIndexingCourse shown.files asked
-      ((depmod_asked_for request).run shown.files)) (sym is) (courses-index shown.files asked)
+      ((if_understood indexes request).run shown.files)) (sym is) (courses-index shown.files asked)
       in
       let left : Shows (done (whole_acts run) shown) (told_of asked h.outcome shown).files
       (told_of asked h.outcome shown).out (told_of asked h.outcome shown).err

@@ -11,7 +11,7 @@ use Rattle.km_names.specs.Path.{path_below}
 use Rattle.km_outside.specs.Contents.{Contents}
 use Rattle.km_course.specs.Carries.{Carries, outcome_status}
 use Rattle.km_course.specs.Course.{Act, Outcome, Run, Stage, ◌>>=◌, given, read_outcome, reads}
-use Rattle.km_course.specs.Course.{says_any}
+use Rattle.km_course.specs.Course.{says_any, if_understood}
 use Rattle.km_course.specs.Course.Act.{read}
 use Rattle.km_course.specs.Course.Outcome.{value, end}
 use Rattle.km_course.specs.Lines.{end_line}
@@ -31,12 +31,12 @@ use Rattle.devname_nodes.specs.Nodes.{nodes_of}
 use Rattle.stages_files.specs.Configuration.{stated_outcome}
 use Rattle.stages_files.specs.IndexFile.{index_of, index_outcome, reads_index}
 use Rattle.stages_files.specs.KernelModules.{modules_folder}
-use Rattle.command_builtin_alias.specs.BuiltinAlias.{builtin_alias_asked_for, builtin_alias_course}
+use Rattle.command_builtin_alias.specs.BuiltinAlias.{builtin_alias_course}
 use Rattle.command_builtin_alias.specs.BuiltinAlias.{found_outcome, names_found, shows_names}
 use Rattle.command_builtin_alias.specs.BuiltinAlias.{unless_none}
 use Rattle.command_builtin_alias.proofs.NameSteps.{found_in}
 use Rattle.command_depmod.specs.Depmod.{target_of_request}
-use Rattle.command_static_nodes.specs.StaticNodes.{reads_nodes, shows_nodes, static_nodes_asked_for}
+use Rattle.command_static_nodes.specs.StaticNodes.{reads_nodes, shows_nodes}
 use Rattle.command_static_nodes.specs.StaticNodes.{static_nodes_course}
 use Rattle.command_static_nodes.proofs.NodeSteps.{nodes_stated, said as nodes_said}
 use Rattle.laws_builtin_aliases.proofs.Found.{are-found}
@@ -196,13 +196,13 @@ lookups-meet first second asked shown told old new later last status d over tell
           (subst (λ request. PrintedBy
           (unless_none (unwrap_or (normal_alias wanted.name) wanted.name)
           (built_in_matching left.info (normal_alias wanted.name)))
-          ((builtin_alias_asked_for request).run told.files)) (sym asks)
+          ((if_understood shows_names request).run told.files)) (sym asks)
           (names-printed told.files (target_of_request asked) left.info wanted left.aliases at));
       nodes = λ rest wanted words asks at.
           printed (static_nodes_course rest) later last status
           (nodes-carried second rest later last status words c) told tells
           (value (node_lines (nodes_of left.tree)))
           (subst (λ request. PrintedBy (value (node_lines (nodes_of left.tree)))
-          ((static_nodes_asked_for request).run told.files)) (sym asks)
+          ((if_understood shows_nodes request).run told.files)) (sym asks)
           (nodes-printed told.files (target_of_request asked) left.tree wanted left.nodes at));
     }

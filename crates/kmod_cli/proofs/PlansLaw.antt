@@ -6,7 +6,7 @@ use Rattle.std.specs.Prelude.{Option, Some, ⊤}
 use Rattle.std.specs.List.{list_all}
 use Rattle.km_outside.specs.Contents.{Contents}
 use Rattle.km_course.specs.Carries.{Carries, outcome_line, outcome_status, whole_acts}
-use Rattle.km_course.specs.Course.{Act, Outcome, Run, Stage, ◌>>=◌, given}
+use Rattle.km_course.specs.Course.{Act, Outcome, Run, Stage, ◌>>=◌, given, if_understood}
 use Rattle.km_course.specs.Course.Outcome.{value, end}
 use Rattle.km_course.specs.World.{World, Shown, done}
 use Rattle.km_course.specs.declared.end.End.{End}
@@ -27,7 +27,7 @@ use Rattle.stages_loads.specs.Tables.{reads_machine}
 use Rattle.stages_known.specs.declared.known.Known.{Known}
 use Rattle.stages_known.specs.Known.{reads_known}
 use Rattle.command_modprobe.specs.Loaded.{images_asked, loads_plan}
-use Rattle.command_modprobe.specs.Modprobe.{modprobe_asked_for, modprobe_course, modprobe_in_mode}
+use Rattle.command_modprobe.specs.Modprobe.{modprobe_requested, modprobe_course, modprobe_in_mode}
 use Rattle.command_modprobe.proofs.CourseSteps.{Fits, is-map, loads-in, of-mode}
 use Rattle.command_modprobe.specs.Parts.{loads_known, prints_plan}
 use Rattle.command_modprobe.specs.Planned.{loaded_in, plan_lines, plan_outcome, plan_unless}
@@ -149,7 +149,7 @@ module _ (held : Contents) (words : List (List ℕ)) (asked : ModprobeWords) (kn
       → Prints lines outcome ((modprobe_course words).run held)
   of-words course same lines outcome p =
       subst (λ (course : Stage ⊤). Prints lines outcome (course.run held))
-      (sym (ap modprobe_asked_for is ∙ same)) p
+      (sym (ap (if_understood modprobe_requested) is ∙ same)) p
 
   -- the course where no load is asked for
   shows : (mode : Mode) → asked.mode ≡ mode

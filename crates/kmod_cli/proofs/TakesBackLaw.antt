@@ -4,7 +4,7 @@ use Rattle.std.proofs.Common.{arith, append-nil}
 use Rattle.std.specs.Prelude.{codes, Some, None, Ok, ⊤}
 use Rattle.km_outside.specs.Contents.{Contents}
 use Rattle.km_course.specs.Carries.{Carries, outcome_line, outcome_status}
-use Rattle.km_course.specs.Course.{Outcome, Run, Stage}
+use Rattle.km_course.specs.Course.{Outcome, Run, Stage, if_understood}
 use Rattle.km_course.specs.Course.Outcome.{value}
 use Rattle.km_course.specs.World.{World, Shown, Tells}
 use Rattle.kmod_words.specs.declared.modprobe.ModprobeWords.{ModprobeWords}
@@ -19,7 +19,7 @@ use Rattle.laws_planned_removals.specs.Courses.{IsRemovalCourse, Removing, SaysL
 use Rattle.laws_planned_removals.proofs.CourseLemmas.{courses-remove}
 use Rattle.laws_planned_removals.proofs.ListedLemmas.{listed-are-taken}
 use Rattle.command_remove.specs.Remove.{removes}
-use Rattle.command_modprobe.specs.Modprobe.{modprobe_asked_for, modprobe_course}
+use Rattle.command_modprobe.specs.Modprobe.{modprobe_requested, modprobe_course}
 use Rattle.command_modprobe.proofs.CourseSteps.{is-map, removes-in}
 use Rattle.kmod_cli.specs.CameTo.{CameTo}
 use Rattle.kmod_cli.specs.Headline.{folder_asked}
@@ -36,7 +36,7 @@ removal-course : (held : Contents) (words : List (List ℕ)) (asked : ModprobeWo
     → modprobe_course words ≡ removes dry_run asked can.came.tables.map
 removal-course held words asked dry_run r is can =
     let tables = can.came.tables in
-    ap modprobe_asked_for is
+    ap (if_understood modprobe_requested) is
     ∙ removes-in dry_run asked tables.map asked.mode can.mode
     (is-map asked.system_map tables.map tables.mapped) asked.fits
 

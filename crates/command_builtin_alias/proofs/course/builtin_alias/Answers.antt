@@ -6,7 +6,8 @@ use Rattle.km_course.specs.Course.Outcome.{end}
 use Rattle.km_course.specs.Follows.{Answers, Follows}
 use Rattle.km_course.specs.declared.end.End.TheVariants.{NotUnderstood}
 use Rattle.km_course.proofs.Steps.{wants, answered}
-use Rattle.command_builtin_alias.specs.BuiltinAlias.{builtin_alias_asked_for}
+use Rattle.km_course.specs.Course.{if_understood}
+use Rattle.command_builtin_alias.specs.BuiltinAlias.{shows_names}
 use Rattle.command_builtin_alias.proofs.course.builtin_alias.Goals as goal
 
 pub returns-in_err-asked : goal.returns-in_err-asked
@@ -16,7 +17,7 @@ returns-in_err-asked g c = λ err.
 
 pub returns-in-Some : goal.returns-in-Some
 returns-in-Some g c = λ err.
-    subst (λ asked. Follows (λ (x : ⊤). x) (builtin_alias_asked_for asked)
+    subst (λ asked. Follows (λ (x : ⊤). x) (if_understood shows_names asked)
     (world (g.F.Reads.seen c.args.files.now) (g.O.Out.seen c.args.out.now) err)
     (world (g.F.Reads.seen c.show_names.new.files) (g.O.Out.seen c.show_names.new.out) err)
     c.show_names.result)
@@ -25,7 +26,7 @@ returns-in-Some g c = λ err.
 
 pub returns-in-None : goal.returns-in-None
 returns-in-None g c = λ err.
-    subst (λ asked. Follows (λ (x : ⊤). x) (builtin_alias_asked_for asked)
+    subst (λ asked. Follows (λ (x : ⊤). x) (if_understood shows_names asked)
     (world (g.F.Reads.seen c.args.files.now) (g.O.Out.seen c.args.out.now) err)
     (world (g.F.Reads.seen c.args.files.now) (g.O.Out.seen c.args.out.now) err)
     (Err c.from.result))

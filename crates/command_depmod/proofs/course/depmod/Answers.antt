@@ -5,8 +5,9 @@ use Rattle.km_course.specs.Course.Outcome.{end}
 use Rattle.km_course.specs.Follows.{Answers}
 use Rattle.km_course.specs.declared.end.End.TheVariants.{NotUnderstood}
 use Rattle.km_course.proofs.Steps.{wants, answered}
-use Rattle.command_depmod.specs.Depmod.{depmod_asked_for}
+use Rattle.command_depmod.specs.Depmod.{indexes}
 use Rattle.km_course.proofs.Following.{along}
+use Rattle.km_course.specs.Course.{if_understood}
 use Rattle.command_depmod.proofs.course.depmod.Goals as goal
 
 pub returns-in_err-asked : goal.returns-in_err-asked
@@ -16,11 +17,11 @@ returns-in_err-asked g c =
 
 pub returns-in-Some : goal.returns-in-Some
 returns-in-Some g c =
-    along depmod_asked_for _ _ (sym c.in-Some.is ∙ c.in_ok-asked.ensures) c.index.ensures
+    along (if_understood indexes) _ _ (sym c.in-Some.is ∙ c.in_ok-asked.ensures) c.index.ensures
 
 pub returns-in-None : goal.returns-in-None
 returns-in-None g c =
-    along depmod_asked_for _ _ (sym c.in-None.is ∙ c.in_ok-asked.ensures)
+    along (if_understood indexes) _ _ (sym c.in-None.is ∙ c.in_ok-asked.ensures)
     (answered (λ (x : ⊤). x) (end NotUnderstood) _ (Err c.from.result)
     (subst (λ stop. Answers (λ (x : ⊤). x) (end NotUnderstood) (Err stop)) (sym c.from.ensures)
     refl))

@@ -6,7 +6,8 @@ use Rattle.km_course.specs.Course.Outcome.{end}
 use Rattle.km_course.specs.Follows.{Answers, Follows}
 use Rattle.km_course.specs.declared.end.End.TheVariants.{NotUnderstood}
 use Rattle.km_course.proofs.Steps.{wants, answered}
-use Rattle.command_trial.specs.Trial.{trial_asked_for}
+use Rattle.km_course.specs.Course.{if_understood}
+use Rattle.command_trial.specs.Trial.{tries}
 use Rattle.command_trial.proofs.course.trial.Goals as goal
 
 pub returns-in_err-asked : goal.returns-in_err-asked
@@ -16,7 +17,7 @@ returns-in_err-asked g c = λ files err.
 
 pub returns-in-Some : goal.returns-in-Some
 returns-in-Some g c = λ files err.
-    subst (λ asked. Follows (λ (x : ⊤). x) (trial_asked_for asked)
+    subst (λ asked. Follows (λ (x : ⊤). x) (if_understood tries asked)
     (world files (g.O.Out.seen c.args.out.now) err)
     (world files (g.O.Out.seen c.try_made.new.out) err) c.try_made.result)
     (sym c.in-Some.is ∙ c.in_ok-asked.ensures.request)
@@ -24,7 +25,7 @@ returns-in-Some g c = λ files err.
 
 pub returns-in-None : goal.returns-in-None
 returns-in-None g c = λ files err.
-    subst (λ asked. Follows (λ (x : ⊤). x) (trial_asked_for asked)
+    subst (λ asked. Follows (λ (x : ⊤). x) (if_understood tries asked)
     (world files (g.O.Out.seen c.args.out.now) err)
     (world files (g.O.Out.seen c.args.out.now) err) (Err c.from.result))
     (sym c.in-None.is ∙ c.in_ok-asked.ensures.request)
