@@ -19,7 +19,7 @@ use Rattle.km_course.specs.declared.stop.Stop.TheVariants.{Ended, FileFault, Out
 use Rattle.km_course.specs.declared.stop.Stop.TheVariants.{WarningFault, Memory}
 
 -- The status of a course with this outcome: 0 if it reached its end.
-abbrev pub outcome_status : Outcome ⊤ → ℕ
+abbrev pub outcome_status : {X : Type 0} → Outcome X → ℕ
 outcome_status (value _) = 0
 outcome_status (end e) = end_status e
 

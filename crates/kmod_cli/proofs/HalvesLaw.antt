@@ -19,7 +19,8 @@ use Rattle.laws_depmod_leaves.proofs.LeftLemmas.{left-indexed}
 use Rattle.laws_depmod_leaves.proofs.TableLemmas.{left-for-loads}
 use Rattle.kmod_cli.specs.CameTo.{CameTo}
 use Rattle.kmod_cli.specs.Halves.{HalvesMeet}
-use Rattle.kmod_cli.specs.Indexes.{IsIndexing, IsPartOf, status_of, told_of}
+use Rattle.km_course.specs.Carries.{outcome_status}
+use Rattle.kmod_cli.specs.Indexes.{IsIndexing, IsPartOf, told_of}
 
 some-status : (e : End) → (0 ≡ end_status e) ⊎ (◌≡◌ {A = ℕ} 0 3) ⊎ (◌≡◌ {A = ℕ} 0 4) → ⊥
 some-status (Refused refusal) (inl is) = absurd (omega (arith, is))
@@ -40,7 +41,7 @@ pub record IsDone (asked : DepmodWords) (shown : Shown) (new : World) : Type 0 w
 
 pub was-done : (asked : DepmodWords) (shown : Shown) (old new : World) → asked.dry_run ≡ false
     → (o : Outcome IndexedTree) → ComesTo shown.files asked o
-    → CameTo (status_of o) (told_of asked o shown) (IsPartOf asked o shown) old new 0
+    → CameTo (outcome_status o) (told_of asked o shown) (IsPartOf asked o shown) old new 0
     → IsDone asked shown new
 was-done asked shown old new wet (end e) comes call = absurd (some-status e call.ended)
 was-done asked shown old new wet (value i) comes call =

@@ -18,7 +18,7 @@ use Rattle.laws_planned_loads.proofs.RunLemmas.{run-given, run_of}
 use Rattle.laws_depmod_leaves.specs.Comes.{IndexedTree}
 use Rattle.laws_depmod_leaves.specs.Course.{IsIndexingCourse, closes}
 use Rattle.laws_depmod_leaves.proofs.CourseLemmas.{courses-index}
-use Rattle.kmod_cli.specs.Indexes.{Indexes, IsPartOf, status_of, told_of}
+use Rattle.kmod_cli.specs.Indexes.{Indexes, IsPartOf, told_of}
 use Rattle.kmod_cli.specs.Plans.{IsPrintedPart}
 use Rattle.kmod_cli.proofs.ActsLeft.{Cut, Shows}
 use Rattle.kmod_cli.proofs.CameLemmas.{came-to}
@@ -31,11 +31,11 @@ end-low (NoFile path) = omega arith
 end-low (TooLarge path) = omega arith
 end-low (Inner line) = omega arith
 
-status-low : (o : Outcome IndexedTree) → status_of o ≤ 2
+status-low : (o : Outcome IndexedTree) → outcome_status o ≤ 2
 status-low (value i) = omega arith
 status-low (end e) = end-low e
 
-closes-status : (o : Outcome IndexedTree) → outcome_status (closes o) ≡ status_of o
+closes-status : (o : Outcome IndexedTree) → outcome_status (closes o) ≡ outcome_status o
 closes-status (value i) = refl
 closes-status (end e) = refl
 
@@ -66,7 +66,7 @@ indexes-law words old new status c = record {
         outcome = h.outcome;
         comes = h.comes;
         call =
-            came-to course old new status c shown tells (status_of h.outcome)
+            came-to course old new status c shown tells (outcome_status h.outcome)
             (told_of asked h.outcome shown) left
             (status-low h.outcome) (ap outcome_status h.ends ∙ closes-status h.outcome) part;
       };

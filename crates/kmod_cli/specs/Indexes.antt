@@ -3,10 +3,10 @@
 -- or the cycle, and leaves files as they were. depmod(8), modules.dep(5).
 use Rattle.std.specs.Prelude.{◌≡◌, ℕ, List, [], ◌++◌, take, flat_map, Some, None, is_some}
 use Rattle.std.specs.Prelude.{if◌then◌else◌}
-use Rattle.km_course.specs.Carries.{line_bytes}
+use Rattle.km_course.specs.Carries.{line_bytes, outcome_status}
 use Rattle.km_course.specs.Course.{Outcome}
 use Rattle.km_course.specs.Course.Outcome.{value, end}
-use Rattle.km_course.specs.Lines.{end_line, end_status, usage}
+use Rattle.km_course.specs.Lines.{end_line, usage}
 use Rattle.km_course.specs.World.{World, Shown, Tells}
 use Rattle.kmod_words.specs.declared.depmod.DepmodWords.{DepmodWords}
 use Rattle.kmod_words.specs.Depmod.{depmod_request}
@@ -46,11 +46,6 @@ warnings asked i =
     else []
 
 -- ---- what the call results in
-
--- The status: 0 of an index, else the status of the end.
-abbrev pub status_of : Outcome IndexedTree → ℕ
-status_of (value i) = 0
-status_of (end e) = end_status e
 
 -- What files and outputs then have, however many calls on files were made. The target folder has
 -- the files of the index, each whole, or their texts are printed; or the line of the end is on err.
@@ -92,7 +87,7 @@ pub record IsIndexing (asked : DepmodWords) (shown : Shown) (old new : World) (s
     -- the status is the one of this outcome: then all of the index was written, or the line of the
     -- end and nothing else. Or it is 3 or 4, and a first part of this was done, because a call on
     -- files or outputs failed, or memory ran out
-    pub call : CameTo (status_of outcome) (told_of asked outcome shown)
+    pub call : CameTo (outcome_status outcome) (told_of asked outcome shown)
         (IsPartOf asked outcome shown)
         old new status
 
