@@ -13,7 +13,7 @@ use Rattle.command_depmod.specs.declared.files.DepmodFile.TheVariants.{BuiltinAl
 use Rattle.command_depmod.specs.declared.files.ExtraFiles.{ExtraFiles}
 use Rattle.command_depmod.specs.Extra.{extra_files, extra_outcome, extra_refusal, refused_stop}
 use Rattle.command_depmod.specs.Extra.{size_refusal}
-use Rattle.command_depmod.specs.Refused.{unless_refused}
+use Rattle.km_course.specs.Course.{value_unless}
 
 -- the stage after modules.builtin.modinfo was read
 abbrev pub info_given : List ℕ → Stage (Option (List ℕ))
@@ -29,15 +29,18 @@ same-stop refusal stop is = cc
 
 stopped : (made : Option ExtraFiles) (whole refused : Option Refusal) (stop : Stop)
     → ((refusal : Refusal) → refused ≡ Some refusal → whole ≡ Some refusal) → StopsFor refused stop
-    → Answers (λ (x : Option ExtraFiles). x) (unless_refused whole made) (Err stop)
+    → Answers (λ (x : Option ExtraFiles). x) (value_unless (λ refusal. refusal) whole made)
+    (Err stop)
 stopped made whole refused stop is (inl wanting) =
-    subst (λ s. Answers (λ (x : Option ExtraFiles). x) (unless_refused whole made) (Err s))
+    subst (λ s. Answers (λ (x : Option ExtraFiles). x)
+    (value_unless (λ refusal. refusal) whole made) (Err s))
     (sym wanting) tt
 stopped made whole None stop is (inr ended) = absurd (cc)
 stopped made whole (Some refusal) stop is (inr ended) =
-    subst (λ s. Answers (λ (x : Option ExtraFiles). x) (unless_refused whole made) (Err s))
+    subst (λ s. Answers (λ (x : Option ExtraFiles). x)
+    (value_unless (λ refusal. refusal) whole made) (Err s))
     (same-stop refusal stop ended)
-    (ap (λ w. unless_refused w made) (is refusal refl))
+    (ap (λ w. value_unless (λ refusal. refusal) w made) (is refusal refl))
 
 -- the first of the two is too large
 pub first-stopped : (tree : List Facts) (info : List ℕ) (stop : Stop)
@@ -74,7 +77,7 @@ both-made tree info made one two is =
     let second = size_refusal Devname e.devname in
     let small : extra_refusal (Some e) ≡ None
     = ap (λ o. first (o ∷ second ∷ [])) one ∙ ap (λ o. first (None ∷ o ∷ [])) two in
-    ap (λ o. unless_refused o (Some e)) small ∙ ap (λ x. value (Some x)) is
+    ap (λ o. value_unless (λ refusal. refusal) o (Some e)) small ∙ ap (λ x. value (Some x)) is
 
 -- none are wanted
 pub none-made : (tree : List Facts) → extra_outcome tree None ≡ value None

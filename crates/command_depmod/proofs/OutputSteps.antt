@@ -31,7 +31,7 @@ use Rattle.command_depmod.specs.declared.files.DepmodFile.TheVariants.{Usual}
 use Rattle.command_depmod.specs.declared.files.DepmodFiles.{DepmodFiles}
 use Rattle.command_depmod.specs.declared.files.ExtraFiles.{ExtraFiles}
 use Rattle.command_depmod.specs.Extra.{extra_outcome, reads_info, size_refusal}
-use Rattle.command_depmod.specs.Refused.{unless_refused}
+use Rattle.km_course.specs.Course.{value_unless}
 use Rattle.command_depmod.specs.Relation.{KernelTree}
 use Rattle.command_depmod.specs.Outputs.{outputs_outcome, puts_file, puts_each, says_file}
 use Rattle.command_depmod.specs.Outputs.{says_each, usual_refusal}
@@ -111,10 +111,11 @@ no-fault made is = none-read refusal_for (output_fault made) (sym (refusal-alike
 
 -- what the files result in, by their fault
 by-fault : (made : OutputFiles) (fault : Option OutputFault) → output_fault made ≡ fault
-    → outputs_outcome made ≡ unless_refused (option_map refusal_for fault) made
+    → outputs_outcome made ≡ value_unless (λ refusal. refusal) (option_map refusal_for fault) made
 unfolding outputs_outcome
 by-fault made fault is =
-    ap (λ o. unless_refused o made) (refusal-alike made ∙ ap (option_map refusal_for) is)
+    ap (λ o. value_unless (λ refusal. refusal) o made)
+    (refusal-alike made ∙ ap (option_map refusal_for) is)
 
 ok-made : (all made : OutputFiles) (fault : Option OutputFault) → output_fault all ≡ fault
     → unless_fault fault all ≡ Ok made → outputs_outcome all ≡ value made

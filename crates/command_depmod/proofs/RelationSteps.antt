@@ -21,7 +21,7 @@ use Rattle.km_course.specs.declared.end.End.TheVariants.{Refused}
 use Rattle.km_course.specs.declared.refusal.Refusal.{Refusal}
 use Rattle.km_course.specs.declared.refusal.Refusal.TheVariants as refusals
 use Rattle.km_course.specs.declared.stop.Stop.{Stop}
-use Rattle.command_depmod.specs.Refused.{unless_refused}
+use Rattle.km_course.specs.Course.{value_unless}
 use Rattle.command_depmod.specs.Relation.{KernelTree, cycle_refusal, relation_outcome}
 use Rattle.command_depmod.specs.Relation.{relation_refusal, relation_stop}
 use Rattle.command_depmod.specs.Related.{seen_tree}
@@ -89,7 +89,7 @@ pub related_ok : (tree : KernelTree) → relation_fault (modules_of tree.facts) 
     → relation_outcome tree ≡ value tree
 unfolding relation_outcome
 related_ok tree passed =
-    ap (λ o. unless_refused o tree)
+    ap (λ o. value_unless (λ refusal. refusal) o tree)
     (refusal-alike (modules_of tree.facts) tree.kernel ∙ ap (option_map refusal_for) passed)
 
 -- a tree with this fault is refused for it
@@ -98,7 +98,7 @@ refused-for : (tree : KernelTree) (fault : RelationFault)
     → relation_outcome tree ≡ end (Refused (refusal_for fault))
 unfolding relation_outcome
 refused-for tree fault is =
-    ap (λ o. unless_refused o tree)
+    ap (λ o. value_unless (λ refusal. refusal) o tree)
     (refusal-alike (modules_of tree.facts) tree.kernel ∙ ap (option_map refusal_for) is)
 
 -- a fault of a tree is what keeps it from having a relation, or out of memory

@@ -17,7 +17,7 @@ use Rattle.km_course.specs.Follows.{Answers}
 use Rattle.km_course.specs.declared.end.End.TheVariants.{Refused}
 use Rattle.km_course.specs.declared.refusal.Refusal.TheVariants as refusals
 use Rattle.km_course.specs.declared.stop.Stop.{Stop}
-use Rattle.command_depmod.specs.Refused.{unless_refused}
+use Rattle.km_course.specs.Course.{value_unless}
 use Rattle.command_depmod.specs.Tree.{tree_outcome, tree_stop}
 
 -- the stage after modules.order was read
@@ -37,7 +37,7 @@ tree_end (Err (TooManyModules count)) = end (Refused refusals.TooManyModules)
 tree_end (Err Memory) = end (Refused refusals.TooManyModules)
 
 refused-alike : (bad : Option (List ℕ)) (count : ℕ) (paths : List (List ℕ))
-    → unless_refused (first
+    → value_unless (λ refusal. refusal) (first
     (option_map refusals.BadPath bad
     ∷ fault_if (nat_lt 10000 count) refusals.TooManyModules ∷ [])) paths
     ≡ tree_end (tree_unless bad count paths)
@@ -45,7 +45,8 @@ refused-alike (Some path) count paths = refl
 refused-alike None count paths = go (nat_lt 10000 count)
   where
     go : (many : Bool)
-        → unless_refused (first (fault_if many refusals.TooManyModules ∷ [])) paths
+        → value_unless (λ refusal. refusal)
+        (first (fault_if many refusals.TooManyModules ∷ [])) paths
         ≡ tree_end (if many then Err (TooManyModules count) else Ok paths)
     go true = refl
     go false = refl

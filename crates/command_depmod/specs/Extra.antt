@@ -21,7 +21,7 @@ use Rattle.command_depmod.specs.declared.files.DepmodFile.{DepmodFile}
 use Rattle.command_depmod.specs.declared.files.DepmodFile.TheVariants.{BuiltinAliasBin, Devname}
 use Rattle.command_depmod.specs.declared.files.ExtraFiles.{ExtraFiles}
 use Rattle.command_depmod.specs.Files.{file_name}
-use Rattle.command_depmod.specs.Refused.{unless_refused}
+use Rattle.km_course.specs.Course.{value_unless}
 
 -- The modules.builtin.modinfo in a folder, if it is asked for. It counts as empty if it is missing.
 abbrev pub reads_info : Bool → List ℕ → Stage (Option (List ℕ))
@@ -55,7 +55,7 @@ extra_refusal (Some extra) =
 -- refusal. Otherwise there are no such files.
 unfoldable pub extra_outcome : List Facts → Option (List ℕ) → Outcome (Option ExtraFiles)
 extra_outcome tree info =
-    unless_refused (extra_refusal (extra_made tree info)) (extra_made tree info)
+    value_unless (λ refusal. refusal) (extra_refusal (extra_made tree info)) (extra_made tree info)
 
 -- how a refusal stops the command
 abbrev pub refused_stop : Refusal → Stop

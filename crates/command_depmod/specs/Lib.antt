@@ -1,4 +1,3 @@
-pub mod Refused
 pub mod Search
 pub mod Tree
 pub mod Modules

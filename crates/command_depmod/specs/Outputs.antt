@@ -11,7 +11,7 @@ use Rattle.command_depmod.specs.declared.files.DepmodFile.{DepmodFile}
 use Rattle.command_depmod.specs.declared.files.DepmodFiles.{DepmodFiles}
 use Rattle.command_depmod.specs.Extra.{extra_outcome, reads_info, size_refusal}
 use Rattle.command_depmod.specs.Files.{all_files, content, file_name, text_files}
-use Rattle.command_depmod.specs.Refused.{unless_refused}
+use Rattle.km_course.specs.Course.{value_unless}
 use Rattle.command_depmod.specs.Relation.{KernelTree}
 
 -- The refusal of the first of the nine files that is too large.
@@ -22,7 +22,7 @@ usual_refusal made =
 
 -- What a tree results in that has these nine files: they, or a refusal.
 unfoldable pub outputs_outcome : OutputFiles → Outcome OutputFiles
-outputs_outcome made = unless_refused (usual_refusal made) made
+outputs_outcome made = value_unless (λ refusal. refusal) (usual_refusal made) made
 
 -- The files of a tree whose modules are in the folder. Its modules.builtin is read, which counts as
 -- empty if it is missing, and with `--extra` its modules.builtin.modinfo. Then the nine files are

@@ -19,7 +19,7 @@ use Rattle.km_course.specs.declared.refusal.Refusal.TheVariants.{Cycle, TooManyD
 use Rattle.km_course.specs.declared.refusal.Refusal.TheVariants.{TooManyDoubles}
 use Rattle.km_course.specs.declared.stop.Stop.{Stop}
 use Rattle.km_course.specs.declared.stop.Stop.TheVariants.{Ended, Memory}
-use Rattle.command_depmod.specs.Refused.{unless_refused}
+use Rattle.km_course.specs.Course.{value_unless}
 
 -- A tree that has a relation over a kernel: the facts of its modules, and the kernel.
 pub record KernelTree : Type 0 where
@@ -50,4 +50,5 @@ relation_stop faults.Memory = Memory
 
 -- What a tree over a kernel results in.
 unfoldable pub relation_outcome : KernelTree → Outcome KernelTree
-relation_outcome tree = unless_refused (relation_refusal (modules_of tree.facts) tree.kernel) tree
+relation_outcome tree = value_unless (λ refusal. refusal)
+    (relation_refusal (modules_of tree.facts) tree.kernel) tree

@@ -16,7 +16,7 @@ use Rattle.km_course.specs.declared.refusal.Refusal.{Refusal}
 use Rattle.km_course.specs.declared.refusal.Refusal.TheVariants.{BadPath, TooManyModules}
 use Rattle.km_course.specs.declared.stop.Stop.{Stop}
 use Rattle.km_course.specs.declared.stop.Stop.TheVariants.{Ended, Memory}
-use Rattle.command_depmod.specs.Refused.{unless_refused}
+use Rattle.km_course.specs.Course.{value_unless}
 
 -- The refusal of paths of modules: of the least that is bad, or of more than 10,000 names.
 abbrev pub tree_refusal : List (List ℕ) → Option Refusal
@@ -35,7 +35,8 @@ tree_stop faults.Memory = Memory
 unfoldable pub tree_outcome : List (List ℕ) → List ℕ → List (List ℕ) → Outcome (List (List ℕ))
 tree_outcome listed order search =
     let paths = filter is_module_path listed in
-    unless_refused (tree_refusal paths) (tree_paths search (lines_of order) paths)
+    value_unless (λ refusal. refusal) (tree_refusal paths)
+    (tree_paths search (lines_of order) paths)
 
 -- The paths of the tree in the folder, relative to it and in the order of the tree. The folder is
 -- listed, which is needed. Then its modules.order is read, which counts as empty if it is absent.

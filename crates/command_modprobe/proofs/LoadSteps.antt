@@ -30,7 +30,8 @@ use Rattle.command_modprobe.specs.Planned.{plan_lines, request_of}
 use Rattle.command_modprobe.specs.Parts.{loads_known}
 use Rattle.command_modprobe.specs.Loaded.{command_owner, images_asked, inserted, inserts_outcome}
 use Rattle.command_modprobe.specs.Loaded.{install_stop, loads_plan, loads_request, loads_steps}
-use Rattle.command_modprobe.specs.Loaded.{unless_install}
+use Rattle.km_course.specs.Course.{value_unless}
+use Rattle.km_course.specs.declared.refusal.Refusal.TheVariants.{InstallChosen}
 
 -- the stages after each part of a load
 abbrev pub after_loads : Machine → Stage ⊤
@@ -119,7 +120,7 @@ command-found None stop steps met is = cc
 command-found (Some name) stop steps met is =
     let same : install_stop name ≡ stop = cc in
     subst (λ s. Answers (λ (x : List Insertion). x) (inserts_outcome steps) (Err s)) same
-    (ap (λ o. unless_install o (flat_map inserted steps)) (sym is))
+    (ap (λ o. value_unless InstallChosen o (flat_map inserted steps)) (sym is))
 
 first-owner : (o : Option (List ℕ)) (others : List (Option (List ℕ))) (stop : Stop)
     → option_map install_stop o ≡ Some stop → first (o ∷ others) ≡ o
@@ -148,6 +149,6 @@ pub inserts-given : (steps : List PlanStep) (i : ℕ) (inserts : List Insertion)
 unfolding inserts_outcome
 inserts-given steps i inserts past before all =
     let gone = drop_all i steps past in
-    ap (λ o. unless_install o (flat_map inserted steps))
+    ap (λ o. value_unless InstallChosen o (flat_map inserted steps))
     (sym before ∙ ap (λ ss. first (map command_owner ss)) gone)
     ∙ ap value (sym all ∙ ap (λ ss. inserts ++ flat_map inserted ss) gone ∙ append-nil inserts)

@@ -27,7 +27,8 @@ use Rattle.stages_known.specs.declared.known.Known.{Known}
 use Rattle.stages_known.specs.Known.{reads_known}
 use Rattle.command_modprobe.specs.Resolved.{names_asked}
 use Rattle.command_modprobe.specs.Parts.{prints_plan}
-use Rattle.command_modprobe.specs.Planned.{plan_lines, plan_outcome, plan_unless, request_of}
+use Rattle.km_course.specs.Course.{value_unless}
+use Rattle.command_modprobe.specs.Planned.{plan_lines, plan_outcome, request_of}
 use Rattle.command_modprobe.specs.Planned.{shows_plan, sources_with}
 
 -- the stage after a plan was made
@@ -64,14 +65,15 @@ pub planned : (known : Known) (loaded : List (List ℕ)) (request : Request) (st
     → plan_outcome known loaded request ≡ value steps
 unfolding plan_outcome
 planned known loaded request steps passed is =
-    ap (λ o. plan_unless (option_map plan_text o)
+    ap (λ o. value_unless Unplanned (option_map plan_text o)
     (plan_steps (sources_with known loaded request) request)) passed
     ∙ ap value (sym is)
 
 -- what an obstacle that was met results in
 met : (first : Option PlanObstacle) (steps : List PlanStep) (o : Obstacle)
     → option_map as_obstacle first ≡ Some o
-    → plan_unless (option_map plan_text first) steps ≡ end (Refused (Unplanned (obstacle_text o)))
+    → value_unless Unplanned (option_map plan_text first) steps
+    ≡ end (Refused (Unplanned (obstacle_text o)))
 met None steps o found = cc
 met (Some first) steps o found =
     let same : as_obstacle first ≡ o = cc in

@@ -8,8 +8,7 @@ use Rattle.model_loader.specs.Machine.{Machine}
 use Rattle.plan_builder.specs.declared.request.Request.{Request}
 use Rattle.plan_builder.specs.declared.step.PlanStep.{PlanStep}
 use Rattle.plan_builder.specs.declared.step.PlanStep.TheVariants.{Insert, Install, Builtin}
-use Rattle.km_course.specs.Course.{Outcome, Stage, ◌>>=◌, given, gives, says_any}
-use Rattle.km_course.specs.Course.Outcome.{value, end}
+use Rattle.km_course.specs.Course.{Outcome, Stage, ◌>>=◌, given, gives, says_any, value_unless}
 use Rattle.km_course.specs.declared.end.End.TheVariants.{Refused}
 use Rattle.km_course.specs.declared.refusal.Refusal.TheVariants.{InstallChosen}
 use Rattle.km_course.specs.declared.stop.Stop.{Stop}
@@ -40,15 +39,11 @@ inserted (Builtin name) = []
 abbrev pub install_stop : List ℕ → Stop
 install_stop name = Ended (Refused (InstallChosen name))
 
--- what there is to load, if a command is run for a module of this name, or for none
-abbrev pub unless_install : Option (List ℕ) → List Insertion → Outcome (List Insertion)
-unless_install None inserts = value inserts
-unless_install (Some name) inserts = end (Refused (InstallChosen name))
-
 -- What a plan that is to be loaded results in: the modules that its steps load, or the refusal of
 -- the first step that runs a command.
 unfoldable pub inserts_outcome : List PlanStep → Outcome (List Insertion)
-inserts_outcome steps = unless_install (first (map command_owner steps)) (flat_map inserted steps)
+inserts_outcome steps = value_unless InstallChosen (first (map command_owner steps))
+    (flat_map inserted steps)
 
 -- What happens to the images of a load that is requested.
 abbrev pub images_asked : ModprobeWords → Images

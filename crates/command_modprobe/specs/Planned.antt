@@ -1,5 +1,5 @@
 -- The plan of what is asked for, and its lines. modprobe(8), `--dry-run` and `--show-depends`.
-use Rattle.std.specs.Prelude.{ℕ, List, [], ◌∷◌, ◌++◌, drop, codes, Option, Some, None}
+use Rattle.std.specs.Prelude.{ℕ, List, [], ◌∷◌, ◌++◌, drop, codes}
 use Rattle.std.specs.Prelude.{if◌then◌else◌, ⊤}
 use Rattle.std.specs.List.{flat_map}
 use Rattle.km_names.specs.Path.{path_below}
@@ -15,9 +15,7 @@ use Rattle.planned_modules.specs.Needs.{Sources}
 use Rattle.plan_builder.specs.Sources.{sources}
 use Rattle.plan_builder.specs.Steps.{plan_steps}
 use Rattle.plan_builder.specs.Text.{first_obstacle_text}
-use Rattle.km_course.specs.Course.{Outcome, Stage, ◌>>=◌, given, says_any}
-use Rattle.km_course.specs.Course.Outcome.{value, end}
-use Rattle.km_course.specs.declared.end.End.TheVariants.{Refused}
+use Rattle.km_course.specs.Course.{Outcome, Stage, ◌>>=◌, given, says_any, value_unless}
 use Rattle.km_course.specs.declared.refusal.Refusal.TheVariants.{Obstacle as Unplanned}
 use Rattle.stages_files.specs.KernelModules.{modules_folder}
 use Rattle.stages_known.specs.declared.known.Known.{Known}
@@ -42,16 +40,11 @@ request_of asked = record {
 abbrev pub sources_with : Known → List (List ℕ) → Request → Sources
 sources_with known loaded request = sources known.rules known.indexes known.unmet loaded request
 
--- What a request results in, if its first obstacle has this text.
-abbrev pub plan_unless : Option (List ℕ) → List PlanStep → Outcome (List PlanStep)
-plan_unless None steps = value steps
-plan_unless (Some text) steps = end (Refused (Unplanned text))
-
 -- What a request results in, if these modules are loaded: its plan, or the refusal of its first
 -- obstacle.
 unfoldable pub plan_outcome : Known → List (List ℕ) → Request → Outcome (List PlanStep)
 plan_outcome known loaded request =
-    plan_unless (first_obstacle_text (sources_with known loaded request) request)
+    value_unless Unplanned (first_obstacle_text (sources_with known loaded request) request)
     (plan_steps (sources_with known loaded request) request)
 
 -- What follows a path in its line: the parameters after a space, if there are any.

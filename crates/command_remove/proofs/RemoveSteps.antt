@@ -41,7 +41,8 @@ use Rattle.command_remove.specs.Listed.{takes_listed}
 use Rattle.command_remove.specs.Lines.{left_lines, step_lines}
 use Rattle.command_remove.specs.Remove.{carries_out, chosen_outcome, command_owner, first_owner}
 use Rattle.command_remove.specs.Remove.{removal_of, removes, removes_listed, removes_names}
-use Rattle.command_remove.specs.Remove.{step_name, steps_outcome, steps_unless, unless_owner}
+use Rattle.km_course.specs.Course.{value_unless}
+use Rattle.command_remove.specs.Remove.{step_name, steps_outcome, steps_unless}
 use Rattle.command_remove.specs.Remove.{unloads_unless, without_named}
 
 -- ---- the stages after each part of a removal
@@ -149,14 +150,14 @@ passes-dry false steps dry = cc
 pub passes-none : (dry_run : Bool) (steps : List RemoveStep) → dry_run ≡ false
     → first_owner steps ≡ None → chosen_outcome dry_run steps ≡ value tt
 unfolding chosen_outcome
-passes-none false steps dry none = ap unless_owner none
+passes-none false steps dry none = ap (λ o. value_unless RemoveChosen o tt) none
 passes-none true steps dry none = cc
 
 pub refuses-chosen : (dry_run : Bool) (steps : List RemoveStep) (name : List ℕ) → dry_run ≡ false
     → first_owner steps ≡ Some name
     → chosen_outcome dry_run steps ≡ end (Refused (RemoveChosen name))
 unfolding chosen_outcome
-refuses-chosen false steps name dry is = ap unless_owner is
+refuses-chosen false steps name dry is = ap (λ o. value_unless RemoveChosen o tt) is
 refuses-chosen true steps name dry is = cc
 
 -- ---- what is taken out

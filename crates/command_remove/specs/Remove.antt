@@ -17,6 +17,7 @@ use Rattle.km_course.specs.Course.{Outcome, Stage, ◌>>=◌, each_from, given, 
 use Rattle.km_course.specs.Course.Outcome.{value, end}
 use Rattle.km_course.specs.declared.end.End.TheVariants.{Refused}
 use Rattle.km_course.specs.declared.refusal.Refusal.TheVariants.{InUse, RemoveChosen}
+use Rattle.km_course.specs.Course.{value_unless}
 use Rattle.stages_files.specs.KernelModules.{modules_folder}
 use Rattle.stages_known.specs.declared.known.Known.{Known}
 use Rattle.stages_known.specs.Known.{reads_known}
@@ -56,15 +57,11 @@ command_owner (Command name command) = Some name
 abbrev pub first_owner : List RemoveStep → Option (List ℕ)
 first_owner steps = first (map command_owner steps)
 
--- what steps result in, if a command is run for a module of this name, or for none
-abbrev pub unless_owner : Option (List ℕ) → Outcome ⊤
-unless_owner None = value tt
-unless_owner (Some name) = end (Refused (RemoveChosen name))
-
 -- Whether steps are carried out: with `-n` they are only printed, and else the first that runs a
 -- command is refused.
 unfoldable pub chosen_outcome : Bool → List RemoveStep → Outcome ⊤
-chosen_outcome dry_run steps = if dry_run then value tt else unless_owner (first_owner steps)
+chosen_outcome dry_run steps = if dry_run then value tt
+    else value_unless RemoveChosen (first_owner steps) tt
 
 -- ---- what is taken out
 

@@ -7,7 +7,8 @@ use Rattle.km_outside.specs.Contents.{Contents, by_bytes, listed, is_path, is_co
 use Rattle.km_names.specs.Limit.{file_limit}
 use Rattle.km_outside.specs.FilesSeen.{list_limit}
 use Rattle.km_course.specs.declared.end.End.{End}
-use Rattle.km_course.specs.declared.end.End.TheVariants.{NoFile, NotUnderstood, TooLarge}
+use Rattle.km_course.specs.declared.end.End.TheVariants.{NoFile, NotUnderstood, Refused, TooLarge}
+use Rattle.km_course.specs.declared.refusal.Refusal.{Refusal}
 
 -- One act: reading a file, listing a folder, writing bytes to the output, writing bytes to err, or
 -- putting a file of these bytes at a path.
@@ -97,6 +98,11 @@ gives x = given (value x)
 -- No act, and this end.
 abbrev pub ends : {X : Type 0} → End → Stage X
 ends e = given (end e)
+
+-- The value, unless something is wrong, which refuses it like this.
+abbrev pub value_unless : {F X : Type 0} → (F → Refusal) → Option F → X → Outcome X
+value_unless refusal None x = value x
+value_unless refusal (Some fault) x = end (Refused (refusal fault))
 
 -- The course of what words ask for, if they are understood.
 abbrev pub if_understood : {A : Type 0} → (A → Stage ⊤) → Option A → Stage ⊤

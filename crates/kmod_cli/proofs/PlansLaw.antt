@@ -30,7 +30,8 @@ use Rattle.command_modprobe.specs.Loaded.{images_asked, loads_plan}
 use Rattle.command_modprobe.specs.Modprobe.{modprobe_requested, modprobe_course, modprobe_in_mode}
 use Rattle.command_modprobe.proofs.CourseSteps.{Fits, is-map, loads-in, of-mode}
 use Rattle.command_modprobe.specs.Parts.{loads_known, prints_plan}
-use Rattle.command_modprobe.specs.Planned.{loaded_in, plan_lines, plan_outcome, plan_unless}
+use Rattle.km_course.specs.Course.{value_unless}
+use Rattle.command_modprobe.specs.Planned.{loaded_in, plan_lines, plan_outcome}
 use Rattle.command_modprobe.specs.Planned.{request_of, shows_plan}
 use Rattle.command_modprobe.proofs.LoadSteps.{after_machine, after_steps}
 use Rattle.command_modprobe.proofs.PlanSteps.{after_plan}
@@ -52,10 +53,11 @@ use Rattle.kmod_cli.proofs.LoadsLeft.{AreOfLoads, loads-left, loads-part}
 outcome-is : (known : Known) (asked : ModprobeWords) (o : Option (List ℕ))
     → first_obstacle_text (sources_asked asked known) (request_of asked) ≡ o
     → plan_outcome known (loaded_in asked.mode known.loaded) (request_of asked)
-    ≡ plan_unless o (plan_steps (sources_asked asked known) (request_of asked))
+    ≡ value_unless Unplanned o (plan_steps (sources_asked asked known) (request_of asked))
 unfolding plan_outcome
 outcome-is known asked o is =
-    ap (λ f. plan_unless f (plan_steps (sources_asked asked known) (request_of asked))) is
+    ap (λ f. value_unless Unplanned f
+    (plan_steps (sources_asked asked known) (request_of asked))) is
 
 -- Files are read, these lines are written, and this is the outcome.
 pub record Prints (lines : List ℕ) (outcome : Outcome ⊤) (run : Run ⊤) : Type 0 where

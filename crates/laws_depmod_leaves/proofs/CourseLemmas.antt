@@ -25,7 +25,7 @@ use Rattle.command_depmod.specs.Depmod.{target_of_request, wanted_of, warns_of_t
 use Rattle.command_depmod.specs.declared.files.DepmodFile.{DepmodFile}
 use Rattle.command_depmod.specs.declared.files.DepmodFiles.{DepmodFiles}
 use Rattle.command_depmod.specs.Extra.{extra_made, extra_outcome, extra_refusal, reads_info}
-use Rattle.command_depmod.specs.Refused.{unless_refused}
+use Rattle.km_course.specs.Course.{value_unless}
 use Rattle.command_depmod.specs.Files.{all_files, content, file_name, text_files}
 use Rattle.command_depmod.specs.Outputs.{hands_out, makes_files, outputs_outcome, puts_each}
 use Rattle.command_depmod.specs.Outputs.{says_each, usual_refusal}
@@ -171,7 +171,8 @@ module _ (held : Contents) (asked : DepmodWords) (tree : List Facts) (table : Ta
   by_extra : output_fault nine ≡ None → (o : Option Refusal)
       → extra_refusal (extra_made tree info) ≡ o
       → FilesCome held asked tree table
-      ((given (unless_refused o (extra_made tree info)) >>= all_made nine).run held).outcome
+      ((given (value_unless (λ refusal. refusal) o
+      (extra_made tree info)) >>= all_made nine).run held).outcome
   unfolding given ◌>>=◌ continued
   by_extra small None passed
       = record {
@@ -194,7 +195,8 @@ module _ (held : Contents) (asked : DepmodWords) (tree : List Facts) (table : Ta
 
   by_size : (o : Option Refusal) → usual_refusal nine ≡ o
       → FilesCome held asked tree table
-      ((given (unless_refused o nine) >>= usual_made (tree_over tree table) info).run
+      ((given (value_unless (λ refusal. refusal) o nine) >>= usual_made
+      (tree_over tree table) info).run
       held).outcome
   unfolding given ◌>>=◌ continued
   by_size None small = after_usual (no-fault nine small)

@@ -53,7 +53,7 @@ use Rattle.command_depmod.specs.Tree.{AreTreePaths, reads_tree, tree_outcome}
 use Rattle.command_depmod.specs.Search.{reads_search}
 use Rattle.command_depmod.specs.Modules.{AreFactsAt, adds_facts, facts_outcome, reads_facts}
 use Rattle.command_depmod.specs.Modules.{reads_modules_facts}
-use Rattle.command_depmod.specs.Refused.{unless_refused}
+use Rattle.km_course.specs.Course.{value_unless}
 use Rattle.command_depmod.specs.Relation.{KernelTree, cycle_refusal, relation_outcome}
 use Rattle.command_depmod.specs.Relation.{relation_refusal}
 use Rattle.command_depmod.specs.Depmod.{modules_of_request, reads_related}
@@ -469,7 +469,7 @@ relation-comes : (held : Contents) (asked : DepmodWords) (tree : List Facts) (ta
     → IsRead held asked tree table → (o : Option Refusal)
     → relation_refusal (modules_of tree) (seen_kernel table) ≡ o
     → RelatedCome held asked
-    (unless_refused o (record { facts = tree; kernel = seen_kernel table }))
+    (value_unless (λ refusal. refusal) o (record { facts = tree; kernel = seen_kernel table }))
 relation-comes held asked tree table read None passed =
     record {
       tree = tree;

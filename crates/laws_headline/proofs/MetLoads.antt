@@ -38,7 +38,9 @@ use Rattle.module_region.specs.RegionAt.{region-by}
 use Rattle.stages_loads.specs.declared.load.Insertion.{Insertion}
 use Rattle.stages_loads.specs.Loads.{paths_of}
 use Rattle.command_modprobe.specs.Loaded.{inserts_outcome}
-use Rattle.command_modprobe.specs.Planned.{plan_outcome, plan_unless, request_of}
+use Rattle.km_course.specs.Course.{value_unless}
+use Rattle.km_course.specs.declared.refusal.Refusal.TheVariants.{Obstacle as Unplanned}
+use Rattle.command_modprobe.specs.Planned.{plan_outcome, request_of}
 use Rattle.stages_known.proofs.KnownSteps.{after_alias, after_builtin, after_configuration}
 use Rattle.stages_known.proofs.KnownSteps.{after_dep, after_indexes, after_loaded, after_rules}
 use Rattle.stages_known.proofs.KnownSteps.{after_softdep, after_symbols, after_unmet, softdep_more}
@@ -246,7 +248,8 @@ two_inserts =
 planned : plan_outcome known [] (request_of load_asked) ≡ value two_steps
 unfolding plan_outcome
 planned =
-    ap (λ o. plan_unless (option_map plan_text o) (plan_steps (sources_by [] [] dep_bytes) request))
+    ap (λ o. value_unless Unplanned (option_map plan_text o)
+    (plan_steps (sources_by [] [] dep_bytes) request))
     plain-unhindered
     ∙ ap (λ steps. value steps) plain-steps
 

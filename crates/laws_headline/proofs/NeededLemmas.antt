@@ -10,7 +10,9 @@ use Rattle.plan_builder.specs.declared.step.PlanStep.{PlanStep}
 use Rattle.plan_builder.specs.declared.step.PlanStep.TheVariants.{Insert}
 use Rattle.stages_known.specs.declared.known.Known.{Known}
 use Rattle.command_modprobe.specs.Loaded.{inserts_outcome}
-use Rattle.command_modprobe.specs.Planned.{plan_outcome, plan_unless, request_of}
+use Rattle.km_course.specs.Course.{value_unless}
+use Rattle.km_course.specs.declared.refusal.Refusal.TheVariants.{Obstacle as Unplanned}
+use Rattle.command_modprobe.specs.Planned.{plan_outcome, request_of}
 use Rattle.laws_planned_loads.specs.Reading.{indexes_of}
 use Rattle.laws_headline.specs.Met.{load_asked}
 use Rattle.laws_headline.specs.Needed.{AloneIsRefused, CommandIsRefused, EarlierIsPlannedAlone}
@@ -37,7 +39,7 @@ left-alone : plan_outcome (known_with [] loaded_other (indexes_by dep_bytes)) lo
     ≡ value alone
 unfolding plan_outcome
 left-alone =
-    ap (λ o. plan_unless (option_map plan_text o)
+    ap (λ o. value_unless Unplanned (option_map plan_text o)
     (plan_steps (sources_by [] loaded_other dep_bytes) request)) left-unhindered
     ∙ ap (λ steps. value steps) left-steps
 
@@ -51,7 +53,7 @@ commanded : plan_outcome (known_with command [] (indexes_by dep_bytes)) [] (requ
     ≡ value commanded_steps
 unfolding plan_outcome
 commanded =
-    ap (λ o. plan_unless (option_map plan_text o)
+    ap (λ o. value_unless Unplanned (option_map plan_text o)
     (plan_steps (sources_by command [] dep_bytes) request)) commanded-unhindered
     ∙ ap (λ steps. value steps) commanded-steps
 
@@ -69,7 +71,7 @@ planned-alone : plan_outcome (known_with [] [] (indexes_by earlier_bytes)) []
     ≡ value alone
 unfolding plan_outcome
 planned-alone =
-    ap (λ o. plan_unless (option_map plan_text o)
+    ap (λ o. value_unless Unplanned (option_map plan_text o)
     (plan_steps (sources_by [] [] earlier_bytes) request)) earlier-unhindered
     ∙ ap (λ steps. value steps) earlier-steps
 

@@ -60,10 +60,13 @@ use Rattle.stages_files.specs.IndexFile.{first_text}
 use Rattle.stages_files.specs.KernelModules.{path_listed}
 use Rattle.stages_loads.specs.Modules.{module_at}
 use Rattle.stages_known.specs.declared.known.Known.{Known}
-use Rattle.command_modprobe.specs.Planned.{plan_outcome, plan_unless, sources_with}
+use Rattle.km_course.specs.Course.{value_unless}
+use Rattle.km_course.specs.declared.refusal.Refusal.TheVariants.{Obstacle as Unplanned}
+use Rattle.km_course.specs.declared.refusal.Refusal.TheVariants.{InstallChosen}
+use Rattle.command_modprobe.specs.Planned.{plan_outcome, sources_with}
 use Rattle.stages_loads.specs.declared.load.Insertion.{Insertion}
 use Rattle.stages_loads.specs.Loads.{paths_of}
-use Rattle.command_modprobe.specs.Loaded.{command_owner, inserted, inserts_outcome, unless_install}
+use Rattle.command_modprobe.specs.Loaded.{command_owner, inserted, inserts_outcome}
 use Rattle.laws_planned_loads.specs.Files.{AreFileModules, IsFileModule}
 use Rattle.laws_planned_loads.specs.Listed.{AreListedPaths}
 use Rattle.laws_planned_loads.specs.Courses.{CoursesBind, known_lines}
@@ -146,7 +149,8 @@ module _ (held : Contents) (folder : List ℕ) (index : Index) (dep : KeyValues)
 
 -- ---- steps
 
-planned : (o : Option (List ℕ)) (made steps : List PlanStep) → plan_unless o made ≡ value steps
+planned : (o : Option (List ℕ)) (made steps : List PlanStep)
+    → value_unless Unplanned o made ≡ value steps
     → (o ≡ None) × (made ≡ steps)
 planned None made steps is = (refl, cc)
 planned (Some text) made steps is = cc
@@ -162,7 +166,7 @@ was-planned known request steps is =
     (no-obstacle s request h.0, h.1)
 
 installed : (o : Option (List ℕ)) (made inserts : List Insertion)
-    → unless_install o made ≡ value inserts → (o ≡ None) × (made ≡ inserts)
+    → value_unless InstallChosen o made ≡ value inserts → (o ≡ None) × (made ≡ inserts)
 installed None made inserts is = (refl, cc)
 installed (Some name) made inserts is = cc
 

@@ -25,7 +25,8 @@ use Rattle.stages_loads.specs.declared.load.Insertion.{Insertion}
 use Rattle.stages_loads.specs.declared.shown.Images.{Images}
 use Rattle.stages_loads.specs.Loads.{ShownImage, entered, finished_params, load_outcome, loads}
 use Rattle.stages_loads.specs.Loads.{loads_all, loads_one, machine_image, params_outcome}
-use Rattle.stages_loads.specs.Loads.{params_unless, paths_of, shows_image, shows_load, shows_params}
+use Rattle.km_course.specs.Course.{value_unless}
+use Rattle.stages_loads.specs.Loads.{paths_of, shows_image, shows_load, shows_params}
 use Rattle.stages_loads.specs.Modules.{reads_module}
 use Rattle.stages_loads.proofs.LoadSteps.{finished_shown, loaded_ok, loads_others, one_loaded}
 use Rattle.stages_loads.proofs.LoadSteps.{one_read, one_shown, params_shown}
@@ -97,11 +98,11 @@ whether images w = by_params images.params refl (fault_of w) refl
 
 outcome-of : (w : WentIn) (o : Option ParamFault) → fault_of w ≡ o
     → params_outcome w.m w.insert.options w.entry.loaded w.entry.image
-    ≡ params_unless w.entry.loaded.name o
+    ≡ value_unless (λ fault. ParamsRefused w.entry.loaded.name (param_fault_text fault)) o
     (finished_params w.m w.insert.options w.entry.loaded w.entry.image)
 unfolding params_outcome
 outcome-of w o is =
-    ap (λ f. params_unless w.entry.loaded.name f
+    ap (λ f. value_unless (λ fault. ParamsRefused w.entry.loaded.name (param_fault_text fault)) f
     (finished_params w.m w.insert.options w.entry.loaded w.entry.image)) is
 
 params-run : (images : Images) (w : WentIn) (files : Contents) → AreWritable images.params w

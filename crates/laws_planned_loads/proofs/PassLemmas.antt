@@ -85,7 +85,7 @@ use Rattle.stages_loads.specs.declared.load.Insertion.{Insertion}
 use Rattle.stages_loads.specs.declared.shown.Images.{Images}
 use Rattle.stages_loads.specs.Loads.{ShownImage, entered, finished_params, load_outcome, loads}
 use Rattle.stages_loads.specs.Loads.{loads_all, loads_one, machine_image, params_image}
-use Rattle.stages_loads.specs.Loads.{params_outcome, params_unless, puts_image, shows_image}
+use Rattle.stages_loads.specs.Loads.{params_outcome, puts_image, shows_image}
 use Rattle.stages_loads.specs.Loads.{shows_load, shows_params}
 use Rattle.stages_loads.specs.Modules.{file_outcome, module_outcome, reads_module}
 use Rattle.stages_loads.specs.Tables.{machine_outcome, reads_addressed, reads_machine, unplaced}
@@ -98,7 +98,7 @@ use Rattle.model_loader.specs.declared.entry.Entry.{Entry}
 use Rattle.stages_known.specs.declared.known.Known.{Known}
 use Rattle.stages_known.specs.Known.{reads_known, reads_loaded}
 use Rattle.command_modprobe.specs.Loaded.{command_owner, images_asked, inserted, inserts_outcome}
-use Rattle.command_modprobe.specs.Loaded.{loads_plan, loads_steps, unless_install}
+use Rattle.command_modprobe.specs.Loaded.{loads_plan, loads_steps}
 use Rattle.remove_plan.specs.declared.step.RemoveStep.{RemoveStep}
 use Rattle.remove_plan.specs.Removal.{in_use, is_asked}
 use Rattle.remove_plan.specs.Steps.{removal_steps}
@@ -107,17 +107,18 @@ use Rattle.command_remove.specs.Listed.{takes_listed, takes_listed_one, well_for
 use Rattle.command_remove.specs.Lines.{left_lines, step_lines, unloaded_line}
 use Rattle.command_remove.specs.Remove.{chosen_outcome, first_owner, removal_of, removes}
 use Rattle.command_remove.specs.Remove.{removes_listed, step_name, steps_outcome, steps_unless}
-use Rattle.command_remove.specs.Remove.{unless_owner, unloads_one, unloads_unless}
+use Rattle.command_remove.specs.Remove.{unloads_one, unloads_unless}
 use Rattle.command_remove.proofs.RemoveSteps as removals
 use Rattle.command_remove.proofs.RemoveSteps.{after_left, one_unloaded}
 use Rattle.command_modprobe.specs.Modprobe.{modprobe_in_mode}
 use Rattle.command_modprobe.proofs.CourseSteps.{Fits, map-given, removal-has}
 use Rattle.command_modprobe.specs.Parts.{loads_known}
-use Rattle.command_modprobe.specs.Planned.{loaded_in, plan_lines, plan_outcome, plan_unless}
+use Rattle.command_modprobe.specs.Planned.{loaded_in, plan_lines, plan_outcome}
 use Rattle.command_modprobe.specs.Planned.{request_of, sources_with}
 use Rattle.km_names.specs.Lines.{lines_text}
 use Rattle.command_modprobe.specs.Resolved.{names_asked}
-use Rattle.stages_known.specs.Named.{found_names, is_unknown, names_outcome, unless_unknown}
+use Rattle.km_course.specs.Course.{value_unless}
+use Rattle.stages_known.specs.Named.{found_names, is_unknown, names_outcome}
 use Rattle.stages_known.proofs.KnownSteps.{loaded_stated}
 use Rattle.command_modprobe.proofs.LoadSteps.{after_lines, after_listed, after_loads, after_machine}
 use Rattle.command_modprobe.proofs.LoadSteps.{after_inserts, after_steps}
@@ -324,7 +325,7 @@ module _ (held : Contents) (asked : ModprobeWords) where
       (other-image folder s.name s.image) (λ put. ends-says Other s.line)
 
   other-unless : (name : List ℕ) (o : Option ParamFault) (p : Params) (e : End)
-      → params_unless name o p ≡ end e → Other e
+      → value_unless (λ fault. ParamsRefused name (param_fault_text fault)) o p ≡ end e → Other e
   other-unless name None p e is = absurd (no-end p e is)
   other-unless name (Some fault) p e is
       = so-ends Other (Refused (ParamsRefused name (param_fault_text fault))) e tt is
@@ -385,7 +386,7 @@ module _ (held : Contents) (asked : ModprobeWords) where
 
   other-obstacle : (o : Option PlanObstacle) (steps : List PlanStep)
       → ((name : List ℕ) → o ≡ Some (bad_dep_line name) → ⊥) → (e : End)
-      → plan_unless (option_map plan_text o) steps ≡ end e → Other e
+      → value_unless Unplanned (option_map plan_text o) steps ≡ end e → Other e
   unfolding line_text
   other-obstacle None steps fine e is = absurd (no-end steps e is)
   other-obstacle (Some (bad_dep_line name)) steps fine e is = absurd (fine name refl)
@@ -419,7 +420,7 @@ module _ (held : Contents) (asked : ModprobeWords) where
       (plan_steps (sources_with known loaded request) request) (fine loaded request))
 
   other-inserts : (owner : Option (List ℕ)) (inserts : List Insertion) (e : End)
-      → unless_install owner inserts ≡ end e → Other e
+      → value_unless InstallChosen owner inserts ≡ end e → Other e
   other-inserts None inserts e is = absurd (no-end inserts e is)
   other-inserts (Some name) inserts e is = so-ends Other (Refused (InstallChosen name)) e tt is
 
@@ -430,7 +431,7 @@ module _ (held : Contents) (asked : ModprobeWords) where
       (other-inserts (first (map command_owner steps)) (flat_map inserted steps))
 
   other-names : (name : Option (List ℕ)) (names : List (List ℕ)) (e : End)
-      → unless_unknown name names ≡ end e → Other e
+      → value_unless (λ name. NotFound (normal_or_itself name)) name names ≡ end e → Other e
   other-names None names e is = absurd (no-end names e is)
   other-names (Some name) names e is
       = so-ends Other (Refused (NotFound (normal_or_itself name))) e tt is
@@ -533,7 +534,8 @@ module _ (held : Contents) (asked : ModprobeWords) where
       (other-in_use machine (in_use machine (is_asked machine names))
       (removal_steps machine rules ignored names))
 
-  other-owner : (name : Option (List ℕ)) (e : End) → unless_owner name ≡ end e → Other e
+  other-owner : (name : Option (List ℕ)) (e : End) → value_unless RemoveChosen name tt ≡ end e
+      → Other e
   other-owner None e is = absurd (no-end tt e is)
   other-owner (Some name) e is = so-ends Other (Refused (RemoveChosen name)) e tt is
 

@@ -13,8 +13,8 @@ use Rattle.km_course.specs.declared.end.End.TheVariants.{Refused}
 use Rattle.km_course.specs.declared.refusal.Refusal.TheVariants.{NotFound}
 use Rattle.name_lookup.specs.declared.found.Found.{Found}
 use Rattle.stages_known.specs.declared.known.Known.{Known}
-use Rattle.stages_known.specs.Named.{found_in, is_unknown, found_names, unless_unknown}
-use Rattle.stages_known.specs.Named.{names_outcome}
+use Rattle.km_course.specs.Course.{value_unless}
+use Rattle.stages_known.specs.Named.{found_in, is_unknown, found_names, names_outcome}
 
 -- a name that stands for something
 known-name : (known : Known) (everywhere : Bool) (name : List ℕ) (names : List (List ℕ))
@@ -36,7 +36,8 @@ names-unknown : (known : Known) (everywhere : Bool) (names : List (List ℕ)) (n
     → names_outcome known everywhere names ≡ end (Refused (NotFound (normal_or_itself name)))
 unfolding names_outcome
 names-unknown known everywhere names name is =
-    ap (λ o. unless_unknown o (found_names known everywhere names)) is
+    ap (λ o. value_unless (λ name. NotFound (normal_or_itself name)) o
+    (found_names known everywhere names)) is
 
 -- what names that stand for something come to
 names-known : (known : Known) (everywhere : Bool) (names all : List (List ℕ))
@@ -44,7 +45,8 @@ names-known : (known : Known) (everywhere : Bool) (names all : List (List ℕ))
     → names_outcome known everywhere names ≡ value all
 unfolding names_outcome
 names-known known everywhere names all is are =
-    ap (λ o. unless_unknown o (found_names known everywhere names)) is ∙ ap value (sym are)
+    ap (λ o. value_unless (λ name. NotFound (normal_or_itself name)) o
+    (found_names known everywhere names)) is ∙ ap value (sym are)
 
 -- what was found for a name
 pub found-some : (known : Known) (everywhere : Bool) (name : List ℕ) (f : Found)

@@ -1,13 +1,11 @@
 -- What the names of a request stand for. modprobe(8), modprobe.d(5).
-use Rattle.std.specs.Prelude.{ℕ, ◌==◌, Bool, List, find, Option, Some, None}
+use Rattle.std.specs.Prelude.{ℕ, ◌==◌, Bool, List, find}
 use Rattle.std.specs.List.{flat_map}
 use Rattle.km_names.specs.AliasForm.{normal_or_itself}
 use Rattle.name_lookup.specs.declared.found.Found.{Found}
 use Rattle.name_lookup.specs.Found.{found}
 use Rattle.name_lookup.specs.Maps.{maps_of}
-use Rattle.km_course.specs.Course.{Outcome}
-use Rattle.km_course.specs.Course.Outcome.{value, end}
-use Rattle.km_course.specs.declared.end.End.TheVariants.{Refused}
+use Rattle.km_course.specs.Course.{Outcome, value_unless}
 use Rattle.km_course.specs.declared.refusal.Refusal.TheVariants.{NotFound}
 use Rattle.stages_known.specs.declared.known.Known.{Known}
 
@@ -23,13 +21,9 @@ is_unknown known everywhere name = (found_in known everywhere name).list == 0
 abbrev pub found_names : Known → Bool → List (List ℕ) → List (List ℕ)
 found_names known everywhere names = flat_map (λ name. (found_in known everywhere name).names) names
 
--- what a name that stands for nothing results in, if there is one, and otherwise the names
-abbrev pub unless_unknown : Option (List ℕ) → List (List ℕ) → Outcome (List (List ℕ))
-unless_unknown None names = value names
-unless_unknown (Some name) names = end (Refused (NotFound (normal_or_itself name)))
-
 -- What the names result in: what they stand for, unless one stands for nothing; then the first such
 -- name is reported.
 unfoldable pub names_outcome : Known → Bool → List (List ℕ) → Outcome (List (List ℕ))
 names_outcome known everywhere names =
-    unless_unknown (find (is_unknown known everywhere) names) (found_names known everywhere names)
+    value_unless (λ name. NotFound (normal_or_itself name))
+    (find (is_unknown known everywhere) names) (found_names known everywhere names)

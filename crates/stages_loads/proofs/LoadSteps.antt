@@ -33,7 +33,8 @@ use Rattle.stages_loads.specs.declared.load.Insertion.{Insertion}
 use Rattle.stages_loads.specs.declared.shown.Images.{Images}
 use Rattle.stages_loads.specs.Loads.{IsNewest, ShownImage, entered, finished_params, load_outcome}
 use Rattle.stages_loads.specs.Loads.{load_refusal, loads, loads_all, params_image, params_outcome}
-use Rattle.stages_loads.specs.Loads.{params_unless, shows_image, shows_load, shows_params}
+use Rattle.km_course.specs.Course.{value_unless}
+use Rattle.stages_loads.specs.Loads.{shows_image, shows_load, shows_params}
 
 -- the stage after a load was shown
 abbrev pub one_shown : Machine → ⊤ → Stage Machine
@@ -163,7 +164,8 @@ pub params_ok : (m : Module) (options : List ℕ) (loaded : LoadedModule) (image
     → params_outcome m options loaded image ≡ value p
 unfolding params_outcome
 params_ok m options loaded image p bytes count passed =
-    ap (λ f. params_unless loaded.name f (finished_params m options loaded image)) passed
+    ap (λ f. value_unless (λ fault. ParamsRefused loaded.name (param_fault_text fault)) f
+    (finished_params m options loaded image)) passed
     ∙ ap value (sym (same-params p (finished_params m options loaded image) bytes count))
 
 -- a fault that isn't out of memory is that of the options
@@ -176,7 +178,8 @@ unfolding params_outcome
 params_not m options loaded image named text fault (inl ran_out) unlike is same =
     absurd (unlike ran_out)
 params_not m options loaded image named text fault (inr f) wanting is same =
-    ap (λ o. params_unless loaded.name o (finished_params m options loaded image)) f
+    ap (λ o. value_unless (λ fault. ParamsRefused loaded.name (param_fault_text fault)) o
+    (finished_params m options loaded image)) f
     ∙ ap (λ t. end (Refused (ParamsRefused loaded.name t))) (sym is)
     ∙ ap (λ n. end (Refused (ParamsRefused n text))) (sym same)
 

@@ -14,11 +14,10 @@ use Rattle.model_loader.specs.FaultText.{load_fault_text}
 use Rattle.model_loader.specs.Machine.{Machine}
 use Rattle.model_loader.specs.Step.{entry_at, module_base, step}
 use Rattle.param_apply.specs.declared.apply.Params.{Params}
-use Rattle.param_apply.specs.declared.fault.ParamFault.{ParamFault}
 use Rattle.param_apply.specs.Applied.{count_of, finished, param_fault}
 use Rattle.param_apply.specs.FaultText.{param_fault_text}
 use Rattle.km_course.specs.Course.{Outcome, Stage, ◌>>=◌, given, gives, each_from, puts, says}
-use Rattle.km_course.specs.Course.{when◌then◌else◌}
+use Rattle.km_course.specs.Course.{when◌then◌else◌, value_unless}
 use Rattle.km_course.specs.Course.Outcome.{value, end}
 use Rattle.km_course.specs.declared.end.End.TheVariants.{Refused}
 use Rattle.km_course.specs.declared.refusal.Refusal.{Refusal}
@@ -97,16 +96,12 @@ finished_params m options loaded image = record {
   count = count_of m.object loaded.base image options;
 }
 
--- what options with this first fault result in
-abbrev pub params_unless : List ℕ → Option ParamFault → Params → Outcome Params
-params_unless name None p = value p
-params_unless name (Some fault) p = end (Refused (ParamsRefused name (param_fault_text fault)))
-
 -- What the options of a module result in: they are written into a copy of its image, or their first
 -- fault is reported.
 unfoldable pub params_outcome : Module → List ℕ → LoadedModule → List ℕ → Outcome Params
 params_outcome m options loaded image =
-    params_unless loaded.name (param_fault m.object loaded.base image options)
+    value_unless (λ fault. ParamsRefused loaded.name (param_fault_text fault))
+    (param_fault m.object loaded.base image options)
     (finished_params m options loaded image)
 
 -- An image is put into the folder for images, if there is one, under a name.
