@@ -13,7 +13,7 @@ use Rattle.km_course.specs.declared.end.End.TheVariants.{Refused}
 use Rattle.km_course.specs.declared.refusal.Refusal.TheVariants.{InstallChosen}
 use Rattle.km_course.specs.declared.stop.Stop.{Stop}
 use Rattle.km_course.specs.declared.stop.Stop.TheVariants.{Ended}
-use Rattle.stages_files.specs.KernelModules.{modules_folder}
+use Rattle.stages_files.specs.KernelModules.{modules_folder, path_listed}
 use Rattle.stages_loads.specs.Listed.{loads_listed}
 use Rattle.stages_loads.specs.declared.load.Insertion.{Insertion}
 use Rattle.stages_loads.specs.declared.shown.Images.{Images}
@@ -54,7 +54,7 @@ images_asked asked = record { folder = asked.image; params = asked.params }
 abbrev pub loads_steps : List ℕ → Images → Known → Machine → List PlanStep → List Insertion
     → Stage ⊤
 loads_steps folder images known machine steps inserts = do
-  listed ← loads_listed folder known.indexes.dep machine known.loaded
+  listed ← loads_listed folder (path_listed known.indexes.dep) machine known.loaded
   said ← says_any (plan_lines folder steps)
   loaded ← loads_all folder images listed inserts
   gives tt

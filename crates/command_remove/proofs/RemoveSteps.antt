@@ -37,18 +37,20 @@ use Rattle.stages_loads.specs.Tables.{reads_machine}
 use Rattle.command_remove.specs.declared.course.Removal.{Removal}
 use Rattle.command_remove.specs.declared.course.Sources.{Sources}
 use Rattle.command_remove.specs.Over.{removes_over}
-use Rattle.command_remove.specs.Listed.{takes_listed}
+use Rattle.stages_loads.specs.Listed.{loads_listed}
 use Rattle.command_remove.specs.Lines.{left_lines, step_lines}
 use Rattle.command_remove.specs.Remove.{carries_out, chosen_outcome, command_owner, first_owner}
 use Rattle.command_remove.specs.Remove.{removal_of, removes, removes_listed, removes_names}
 use Rattle.km_course.specs.Course.{value_unless}
 use Rattle.command_remove.specs.Remove.{step_name, steps_outcome, steps_unless}
 use Rattle.command_remove.specs.Remove.{unloads_unless, without_named}
+use Rattle.command_remove.specs.Listed.{well_formed_path}
 
 -- ---- the stages after each part of a removal
 
 abbrev pub taken_others : List ℕ → Indexes → List (List ℕ) → Machine → Stage Machine
-taken_others folder indexes names machine = takes_listed folder indexes machine names
+taken_others folder indexes names machine = loads_listed folder
+    (well_formed_path indexes) machine names
 
 abbrev pub after_left : Machine → Stage ⊤
 after_left left = says_any (left_lines left.entries)

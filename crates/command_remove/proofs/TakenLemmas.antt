@@ -34,7 +34,8 @@ use Rattle.stages_loads.specs.Tables.{kernel_with, machine_outcome, reads_addres
 use Rattle.stages_loads.specs.Tables.{unplaced}
 use Rattle.stages_loads.proofs.ListedSteps.{listed_found, listed_read}
 use Rattle.stages_loads.proofs.TableSteps.{made}
-use Rattle.command_remove.specs.Listed.{takes_listed_one, well_formed_path}
+use Rattle.stages_loads.specs.Listed.{loads_listed_one}
+use Rattle.command_remove.specs.Listed.{well_formed_path}
 use Rattle.command_remove.specs.Remove.{step_name, steps_outcome, steps_unless}
 use Rattle.command_remove.specs.Taken.{CanBeTakenOut}
 
@@ -95,14 +96,15 @@ one-taken folder machine name found after h =
     )
 
 all-taken : (folder : List ℕ) (indexes : Indexes) (names : List (List ℕ)) (machine after : Machine)
-    → (each_from (takes_listed_one folder indexes) machine names).possible (value after)
+    → (each_from (loads_listed_one folder (well_formed_path indexes)) machine names).possible
+    (value after)
     → (ms : List Module) × (load_all machine ms ≡ Ok after)
 all-taken folder indexes [] machine after h =
     ([], ap Ok (sym (same-value after machine (came-given (value machine) after h))))
 all-taken folder indexes (name ∷ names) machine after h =
     let a
-    = came-of (takes_listed_one folder indexes machine name)
-    (λ next. each_from (takes_listed_one folder indexes) next names) after h in
+    = came-of (loads_listed_one folder (well_formed_path indexes) machine name)
+    (λ next. each_from (loads_listed_one folder (well_formed_path indexes)) next names) after h in
     let one = one-taken folder machine name (well_formed_path indexes name) a.0 a.1 in
     let rest = all-taken folder indexes names a.0 after a.2 in
     (one.0 ∷ rest.0, ap (unless_refused (λ next. load_all next rest.0)) one.1 ∙ rest.1)
@@ -116,7 +118,8 @@ IsOfLoads machine =
 pub of-loads : (folder : List ℕ) (indexes : Indexes) (names : List (List ℕ)) (kernel : Kernel)
     (region : Region) (machine after : Machine)
     → machine ≡ new_machine kernel region
-    → (each_from (takes_listed_one folder indexes) machine names).possible (value after)
+    → (each_from (loads_listed_one folder (well_formed_path indexes)) machine names).possible
+    (value after)
     → IsOfLoads after
 of-loads folder indexes names kernel region machine after new h =
     let all = all-taken folder indexes names machine after h in

@@ -24,8 +24,9 @@ use Rattle.stages_known.specs.Known.{reads_known}
 use Rattle.stages_known.specs.Named.{names_outcome}
 use Rattle.stages_loads.specs.Tables.{reads_machine}
 use Rattle.command_remove.specs.declared.course.Removal.{Removal}
-use Rattle.command_remove.specs.Listed.{takes_listed}
+use Rattle.stages_loads.specs.Listed.{loads_listed}
 use Rattle.command_remove.specs.Lines.{left_lines, step_lines, unloaded_line}
+use Rattle.command_remove.specs.Listed.{well_formed_path}
 
 -- ---- the steps
 
@@ -116,7 +117,7 @@ removes_names removal known listed = do
 -- The listed modules go into the machine, and then the modules of the names are removed.
 abbrev pub removes_listed : List ℕ → Removal → Known → Machine → Stage ⊤
 removes_listed folder removal known machine = do
-  listed ← takes_listed folder known.indexes machine known.loaded
+  listed ← loads_listed folder (well_formed_path known.indexes) machine known.loaded
   removes_names removal known listed
 
 -- The course of `modprobe -r`, with `-n` or without, from the machine of a System.map.

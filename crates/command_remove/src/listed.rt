@@ -1,7 +1,8 @@
 // The modules that are listed as loaded.
 ghost use Rattle.std.specs.Prelude.{◌≡◌, IfOk, option_copied};
 ghost use Rattle.km_course.specs.FollowsOn.{FollowsOnFiles};
-ghost use Rattle.command_remove.specs.Listed.{takes_listed, takes_listed_one, well_formed_path};
+ghost use Rattle.stages_loads.specs.Listed.{loads_listed, loads_listed_one};
+ghost use Rattle.command_remove.specs.Listed.{well_formed_path};
 
 use km_course::Stop;
 use km_names::{Name, PathText};
@@ -24,7 +25,8 @@ pub(crate) fn take_listed<F: Reads>(
     names: &[Name],
     files: &mut F,
 ) -> Result<Machine, Stop>
-    ensures { FollowsOnFiles (takes_listed folder.now indexes.now machine names.now)
+    ensures { FollowsOnFiles
+        (loads_listed folder.now (well_formed_path indexes.now) machine names.now)
         F.seen files.old files.new result }
 {
     let mut left = names.len();
@@ -44,7 +46,8 @@ fn take_listed_one<F: Reads>(
     name: &Name,
     files: &mut F,
 ) -> Result<Machine, Stop>
-    ensures { FollowsOnFiles (takes_listed_one folder.now indexes.now machine name.now)
+    ensures { FollowsOnFiles
+        (loads_listed_one folder.now (well_formed_path indexes.now) machine name.now)
         F.seen files.old files.new result }
 {
     let found = well_formed_path(alloc, indexes, name)?;

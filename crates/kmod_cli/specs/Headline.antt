@@ -22,7 +22,7 @@ use Rattle.param_apply.specs.declared.fault.ParamFault.{ParamFault}
 use Rattle.param_apply.specs.FaultText.{param_fault_text}
 use Rattle.laws_closed_plans.specs.Binding.{IsLoaded}
 use Rattle.laws_closed_plans.specs.Loads.{IsPlaceFault, load_all}
-use Rattle.stages_files.specs.KernelModules.{modules_folder}
+use Rattle.stages_files.specs.KernelModules.{modules_folder, path_listed}
 use Rattle.stages_loads.specs.declared.load.Insertion.{Insertion}
 use Rattle.stages_loads.specs.Loads.{ShownImage, paths_of}
 use Rattle.command_modprobe.specs.Planned.{plan_lines}
@@ -147,7 +147,8 @@ pub record LoadsBind (asked : ModprobeWords) (l : Loading) (shown : Shown) (old 
   -- path of its dependency line
   pub listed : List Module
   pub listed_paths : List (List ℕ)
-  pub listed_lines : AreListedPaths l.known.indexes.dep (reverse l.known.loaded) listed_paths
+  pub listed_lines : AreListedPaths (path_listed l.known.indexes.dep)
+      (reverse l.known.loaded) listed_paths
   pub listed_files : AreFileModules shown.files (folder_asked asked) listed_paths listed
   pub listed_load : IsLoaded l.kernel l.region listed l.listed
   -- each module of the plan is all of a valid file, the one at the path of its step; and they bind,

@@ -15,11 +15,12 @@ use Rattle.model_unload.specs.Unload.{unload_all}
 use Rattle.remove_plan.specs.Removal.{in_use, is_asked, left_after}
 use Rattle.command_remove.specs.Lines.{step_lines}
 use Rattle.command_remove.specs.Remove.{first_owner}
+use Rattle.command_remove.specs.Listed.{well_formed_path}
 use Rattle.laws_closed_plans.specs.Binding.{IsLoaded}
 use Rattle.laws_planned_loads.specs.Files.{AreFileModules}
 use Rattle.laws_planned_removals.specs.Courses.{CameToRemoval, Removing, removed_names, steps_asked}
 use Rattle.laws_planned_removals.specs.Courses.{taken_out_lines}
-use Rattle.laws_planned_removals.specs.Listed.{AreWellFormedPaths}
+use Rattle.laws_planned_loads.specs.Listed.{AreListedPaths}
 use Rattle.laws_removal.specs.Back.{AreRemovedModules, AreTakenBack}
 use Rattle.kmod_cli.specs.CameTo.{CameTo}
 use Rattle.kmod_cli.specs.Headline.{folder_asked}
@@ -52,7 +53,8 @@ pub record IsTakenBack (asked : ModprobeWords) (dry_run : Bool) (r : Removing) (
   -- path of its dependency line
   pub listed : List Module
   pub listed_paths : List (List ℕ)
-  pub listed_lines : AreWellFormedPaths r.known.indexes (reverse r.known.loaded) listed_paths
+  pub listed_lines : AreListedPaths (well_formed_path r.known.indexes)
+      (reverse r.known.loaded) listed_paths
   pub listed_files : AreFileModules shown.files (folder_asked asked) listed_paths listed
   pub listed_load : IsLoaded r.kernel r.region listed r.listed
   -- if a module that is asked for is used by one that isn't, the oldest such module and its oldest

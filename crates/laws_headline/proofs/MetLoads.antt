@@ -29,6 +29,7 @@ use Rattle.stages_files.specs.Configuration.{reads_configuration, stated_outcome
 use Rattle.stages_files.specs.declared.configuration.Tool.TheVariants.{Modprobe}
 use Rattle.stages_files.specs.IndexFile.{index_of, index_outcome}
 use Rattle.stages_files.specs.KernelTable.{reads_map, table_outcome}
+use Rattle.stages_files.specs.KernelModules.{path_listed}
 use Rattle.stages_loads.specs.Listed.{loads_listed}
 use Rattle.stages_loads.specs.Tables.{kernel_with, machine_outcome, reads_machine, unplaced}
 use Rattle.stages_known.specs.declared.known.Known.{Known}
@@ -299,7 +300,7 @@ made-machine =
 has-machine : HasMachine left load_asked kernel whole
 has-machine = record { map = map_path; mapped = refl; in_region = refl; made = made-machine }
 
-none-listed : ((loads_listed folder_found known.indexes.dep (start pages_of_region)
+none-listed : ((loads_listed folder_found (path_listed known.indexes.dep) (start pages_of_region)
     known.loaded).run left).outcome
     ≡ value (start pages_of_region)
 none-listed = given-is (value (start pages_of_region)) left

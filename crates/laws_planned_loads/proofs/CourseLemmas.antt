@@ -110,7 +110,7 @@ module _ (held : Contents) (folder : List ℕ) (index : Index) (dep : KeyValues)
       (v.0, v.1, ap own_path v.2 ∙ (line-module line.0 path line.2).0)
 
   -- each listed name has a dependency line
-  pub have-values : (names paths : List (List ℕ)) → AreListedPaths index names paths
+  pub have-values : (names paths : List (List ℕ)) → AreListedPaths (path_listed index) names paths
       → (name : List ℕ) → is_among names name ≡ true → has_value dep name ≡ true
   have-values [] [] are name in' = cc
   have-values [] (path ∷ paths) are name in' = absurd are
@@ -128,7 +128,7 @@ module _ (held : Contents) (folder : List ℕ) (index : Index) (dep : KeyValues)
 
   -- the modules of listed names are those of the folder
   pub listed-modules : (names paths : List (List ℕ)) (ms : List Module)
-      → AreListedPaths index names paths → AreFileModules held folder paths ms
+      → AreListedPaths (path_listed index) names paths → AreFileModules held folder paths ms
       → AreModulesOf held folder dep names ms
   listed-modules [] [] [] found are = tt
   listed-modules [] [] (m ∷ ms) found are = absurd are

@@ -65,12 +65,12 @@ record OneGoesIn (files : Contents) (folder : List ℕ) (index : Index) (machine
   found : path_listed index name ≡ Some path
   file : IsFileModule files folder path m
   took : step machine m ≡ Ok next
-  acts : ((loads_listed_one folder index machine name).run files).acts
+  acts : ((loads_listed_one folder (path_listed index) machine name).run files).acts
       ≡ read (path_below folder path) ∷ []
 
 one-goes-in : (files : Contents) (folder : List ℕ) (index : Index) (machine : Machine)
     (name : List ℕ) (next : Machine)
-    → ((loads_listed_one folder index machine name).run files).outcome ≡ value next
+    → ((loads_listed_one folder (path_listed index) machine name).run files).outcome ≡ value next
     → OneGoesIn files folder index machine name next
 unfolding given
 one-goes-in files folder index machine name next is =
@@ -99,9 +99,10 @@ one-goes-in files folder index machine name next is =
 -- the modules of names in the order of their loads
 pub listed-go-in : (folder : List ℕ) (index : Index) (names : List (List ℕ)) (machine : Machine)
     (files : Contents) (last : Machine)
-    → ((each_from (loads_listed_one folder index) machine names).run files).outcome ≡ value last
+    → ((each_from (loads_listed_one folder (path_listed index)) machine names).run files).outcome
+    ≡ value last
     → ListedGoIn files folder index machine names last
-    ((each_from (loads_listed_one folder index) machine names).run files)
+    ((each_from (loads_listed_one folder (path_listed index)) machine names).run files)
 unfolding given
 listed-go-in folder index [] machine files last is = record {
   paths = [];
@@ -113,23 +114,24 @@ listed-go-in folder index [] machine files last is = record {
 }
 listed-go-in folder index (name ∷ names) machine files last is =
     let g
-    = goes-on (loads_listed_one folder index machine name)
-    (λ next. each_from (loads_listed_one folder index) next names) files last is in
+    = goes-on (loads_listed_one folder (path_listed index) machine name)
+    (λ next. each_from (loads_listed_one folder (path_listed index)) next names) files last is in
     let next : Machine = g.mid in
     let one = one-goes-in files folder index machine name next g.first in
-    let rest : ((each_from (loads_listed_one folder index) next names).run files).outcome
+    let rest :
+    ((each_from (loads_listed_one folder (path_listed index)) next names).run files).outcome
     ≡ value last
     =
-    subst (λ done. ((each_from (loads_listed_one folder index) next names).run
+    subst (λ done. ((each_from (loads_listed_one folder (path_listed index)) next names).run
     (after done files)).outcome
     ≡ value last) one.acts g.rest in
     let others = listed-go-in folder index names next files last rest in
-    let same : ((each_from (loads_listed_one folder index) next names).run
-    (after ((loads_listed_one folder index machine name).run files).acts
+    let same : ((each_from (loads_listed_one folder (path_listed index)) next names).run
+    (after ((loads_listed_one folder (path_listed index) machine name).run files).acts
     files)).acts
-    ≡ ((each_from (loads_listed_one folder index) next names).run files).acts
+    ≡ ((each_from (loads_listed_one folder (path_listed index)) next names).run files).acts
     =
-    ap (λ done. ((each_from (loads_listed_one folder index) next names).run
+    ap (λ done. ((each_from (loads_listed_one folder (path_listed index)) next names).run
     (after done files)).acts) one.acts in
     record {
       paths = one.path ∷ others.paths;
@@ -140,8 +142,8 @@ listed-go-in folder index (name ∷ names) machine files last is =
       acts =
           g.acts
           ∙ ap (λ done. done
-          ++ ((each_from (loads_listed_one folder index) next names).run
-          (after ((loads_listed_one folder index machine name).run files).acts
+          ++ ((each_from (loads_listed_one folder (path_listed index)) next names).run
+          (after ((loads_listed_one folder (path_listed index) machine name).run files).acts
           files)).acts) one.acts
           ∙ ap (λ done. read (path_below folder one.path) ∷ done) (same ∙ others.acts);
     }
@@ -155,7 +157,7 @@ listed-are-of-machine held folder index machine names after' is =
 one-run : (files : Contents) (folder : List ℕ) (index : Index) (machine : Machine)
     (name path : List ℕ) (m : Module)
     → path_listed index name ≡ Some path → IsFileModule files folder path m
-    → (loads_listed_one folder index machine name).run files
+    → (loads_listed_one folder (path_listed index) machine name).run files
     ≡ run_of (read (path_below folder path) ∷ [])
     (load_outcome Listed m.facts.name (step machine m))
 one-run files folder index machine name path m found is =
@@ -174,7 +176,8 @@ unfolding load_outcome
 loaded-not name fault r is = ap (load_outcome Listed name) is
 
 none-left : (files : Contents) (folder : List ℕ) (index : Index) (machine : Machine)
-    → AreListedLoads machine [] ((each_from (loads_listed_one folder index) machine []).run files)
+    → AreListedLoads machine []
+    ((each_from (loads_listed_one folder (path_listed index)) machine []).run files)
 unfolding given
 none-left files folder index machine = record {
   loaded = λ after' is. let same : machine ≡ after' = cc in ap (λ x. value x) same;
@@ -213,9 +216,9 @@ listed-none machine m ms acts fault refused =
 
 listed-follow : (folder : List ℕ) (index : Index) (names paths : List (List ℕ)) (ms : List Module)
     (machine : Machine) (files : Contents)
-    → AreListedPaths index names paths → AreFileModules files folder paths ms
+    → AreListedPaths (path_listed index) names paths → AreFileModules files folder paths ms
     → AreListedLoads machine ms
-    ((each_from (loads_listed_one folder index) machine names).run files)
+    ((each_from (loads_listed_one folder (path_listed index)) machine names).run files)
 listed-follow folder index [] [] [] machine files found are = none-left files folder index machine
 listed-follow folder index [] [] (m ∷ ms) machine files found are = absurd are
 listed-follow folder index [] (path ∷ paths) ms machine files found are = absurd found
@@ -228,28 +231,32 @@ listed-follow folder index (name ∷ names) (path ∷ paths) (m ∷ ms) machine 
     by_step : (r : Result Machine LoadFault) → step machine m ≡ r
         → ((next : Machine)
         → AreListedLoads next ms
-        ((each_from (loads_listed_one folder index) next names).run files))
+        ((each_from (loads_listed_one folder (path_listed index)) next names).run files))
         → AreListedLoads machine (m ∷ ms)
-        ((each_from (loads_listed_one folder index) machine (name ∷ names)).run files)
+        ((each_from (loads_listed_one folder (path_listed index)) machine (name ∷ names)).run files)
     by_step (Ok next) took rest =
         let acts = read (path_below folder path) ∷ [] in
-        let one : (loads_listed_one folder index machine name).run files ≡ run_of acts (value next)
+        let one : (loads_listed_one folder (path_listed index) machine name).run files
+        ≡ run_of acts (value next)
         =
         one-run files folder index machine name path m found.0 are.0
         ∙ ap (run_of acts) (loaded_ok Listed m.facts.name (step machine m) next took) in
         subst (AreListedLoads machine (m ∷ ms))
-        (sym (run-then (loads_listed_one folder index machine name)
-        (λ next. each_from (loads_listed_one folder index) next names) files acts next one))
+        (sym (run-then (loads_listed_one folder (path_listed index) machine name)
+        (λ next. each_from
+        (loads_listed_one folder (path_listed index)) next names) files acts next one))
         (listed-more machine next m ms acts _ took (rest next))
     by_step (Err fault) refused rest =
         let acts = read (path_below folder path) ∷ [] in
         let told = Refused (ListedRefused m.facts.name (load_fault_text fault)) in
-        let one : (loads_listed_one folder index machine name).run files ≡ run_of acts (end told) =
+        let one : (loads_listed_one folder (path_listed index) machine name).run files
+        ≡ run_of acts (end told) =
         one-run files folder index machine name path m found.0 are.0
         ∙ ap (run_of acts) (loaded-not m.facts.name fault (step machine m) refused) in
         subst (AreListedLoads machine (m ∷ ms))
-        (sym (run-ends (loads_listed_one folder index machine name)
-        (λ next. each_from (loads_listed_one folder index) next names) files acts told one))
+        (sym (run-ends (loads_listed_one folder (path_listed index) machine name)
+        (λ next. each_from
+        (loads_listed_one folder (path_listed index)) next names) files acts told one))
         (listed-none machine m ms acts fault refused)
 
 pub listed-loads-are-of-machine : ListedLoadsAreOfMachine

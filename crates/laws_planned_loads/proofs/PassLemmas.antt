@@ -103,7 +103,7 @@ use Rattle.remove_plan.specs.declared.step.RemoveStep.{RemoveStep}
 use Rattle.remove_plan.specs.Removal.{in_use, is_asked}
 use Rattle.remove_plan.specs.Steps.{removal_steps}
 use Rattle.command_remove.specs.declared.course.Removal.{Removal}
-use Rattle.command_remove.specs.Listed.{takes_listed, takes_listed_one, well_formed_path}
+use Rattle.command_remove.specs.Listed.{well_formed_path}
 use Rattle.command_remove.specs.Lines.{left_lines, step_lines, unloaded_line}
 use Rattle.command_remove.specs.Remove.{chosen_outcome, first_owner, removal_of, removes}
 use Rattle.command_remove.specs.Remove.{removes_listed, step_name, steps_outcome, steps_unless}
@@ -307,9 +307,9 @@ module _ (held : Contents) (asked : ModprobeWords) where
       (other-module folder path) (λ m. other-load Listed machine m))
 
   other-listed : (folder : List ℕ) (index : Index) (machine : Machine) (names : List (List ℕ))
-      → EndsIn Other (loads_listed folder index machine names)
+      → EndsIn Other (loads_listed folder (path_listed index) machine names)
   other-listed folder index machine names =
-      ends-each Other (loads_listed_one folder index)
+      ends-each Other (loads_listed_one folder (path_listed index))
       (λ before name. other-listed_at folder before name (path_listed index name)) machine
       (reverse names)
 
@@ -485,7 +485,7 @@ module _ (held : Contents) (asked : ModprobeWords) where
       (inserts : List Insertion)
       → EndsIn Other (loads_steps folder (images_asked asked) known machine steps inserts)
   other-steps known machine steps inserts =
-      ends-then Other (loads_listed folder known.indexes.dep machine known.loaded)
+      ends-then Other (loads_listed folder (path_listed known.indexes.dep) machine known.loaded)
       (after_listed folder (images_asked asked) steps inserts)
       (other-listed folder known.indexes.dep machine known.loaded) (λ listed.
       ends-then Other (says_any (plan_lines folder steps))
@@ -514,9 +514,9 @@ module _ (held : Contents) (asked : ModprobeWords) where
   -- ---- removals
 
   other-taken : (indexes : Indexes) (machine : Machine) (names : List (List ℕ))
-      → EndsIn Other (takes_listed folder indexes machine names)
+      → EndsIn Other (loads_listed folder (well_formed_path indexes) machine names)
   other-taken indexes machine names =
-      ends-each Other (takes_listed_one folder indexes)
+      ends-each Other (loads_listed_one folder (well_formed_path indexes))
       (λ before name. other-listed_at folder before name (well_formed_path indexes name))
       machine (reverse names)
 
@@ -561,7 +561,7 @@ module _ (held : Contents) (asked : ModprobeWords) where
   other-removes : (removal : Removal) (known : Known) (machine : Machine)
       → EndsIn Other (removes_listed folder removal known machine)
   other-removes removal known machine =
-      ends-then Other (takes_listed folder known.indexes machine known.loaded)
+      ends-then Other (loads_listed folder (well_formed_path known.indexes) machine known.loaded)
       (removals.after_listed removal known) (other-taken known.indexes machine known.loaded) (λ
       listed.
       ends-then Other (given (names_outcome known removal.use_blacklist removal.names))

@@ -15,7 +15,7 @@ use Rattle.kernel_exports.specs.KernelTable.{exports_of_map}
 use Rattle.module_region.specs.declared.region.Region.{Region}
 use Rattle.model_loader.specs.Machine.{Machine, new_machine}
 use Rattle.plan_builder.specs.declared.step.PlanStep.{PlanStep}
-use Rattle.stages_files.specs.KernelModules.{modules_folder}
+use Rattle.stages_files.specs.KernelModules.{modules_folder, path_listed}
 use Rattle.stages_files.specs.KernelTable.{reads_map, reads_symvers, table_outcome}
 use Rattle.stages_files.proofs.TableSteps.{map_read, symvers_read}
 use Rattle.stages_loads.specs.Listed.{loads_listed}
@@ -134,7 +134,7 @@ module _ (held : Contents) (asked : ModprobeWords) (l : Loading)
     making = reads_machine has.map asked.symvers region
 
     abbrev listing : Stage Machine
-    listing = loads_listed folder known.indexes.dep start known.loaded
+    listing = loads_listed folder (path_listed known.indexes.dep) start known.loaded
 
     abbrev loading : Run Machine
     loading = (loads_all folder (images_asked asked) machine inserts).run held

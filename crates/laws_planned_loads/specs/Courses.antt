@@ -28,7 +28,7 @@ use Rattle.laws_closed_plans.specs.Binding.{Binds, IsLoaded}
 use Rattle.laws_indexed_folder.specs.Indexed.{Indexed}
 use Rattle.laws_indexed_folder.specs.Folder.{AreModulesOf}
 use Rattle.laws_indexed_folder.specs.Steps.{inserted_names}
-use Rattle.stages_files.specs.KernelModules.{modules_folder}
+use Rattle.stages_files.specs.KernelModules.{modules_folder, path_listed}
 use Rattle.stages_loads.specs.Listed.{loads_listed}
 use Rattle.stages_loads.specs.declared.load.Insertion.{Insertion}
 use Rattle.stages_loads.specs.declared.shown.Images.{Images}
@@ -95,7 +95,8 @@ pub record Loading : Type 0 where
 pub record CameToLoads (held : Contents) (inputs : LoadInputs) (l : Loading) : Type 0 where
   pub knows : ((reads_known inputs.config inputs.folder inputs.listing).run held).outcome
       ≡ value l.known
-  pub listed : ((loads_listed inputs.folder l.known.indexes.dep (new_machine l.kernel l.region)
+  pub listed : ((loads_listed inputs.folder (path_listed l.known.indexes.dep)
+      (new_machine l.kernel l.region)
       l.known.loaded).run held).outcome
       ≡ value l.listed
   pub planned : plan_outcome l.known l.known.loaded inputs.request ≡ value l.steps
@@ -146,7 +147,8 @@ pub record CourseBinds (held : Contents) (folder : List ℕ) (l : Loading) : Typ
   -- each is all of a valid file: a module of the plan at the path of its step, a listed one at the
   -- first path of its dependency line
   pub listed_paths : List (List ℕ)
-  pub listed_lines : AreListedPaths l.known.indexes.dep (reverse l.known.loaded) listed_paths
+  pub listed_lines : AreListedPaths (path_listed l.known.indexes.dep)
+      (reverse l.known.loaded) listed_paths
   pub listed_files : AreFileModules held folder listed_paths listed
   pub plan_files : AreFileModules held folder (paths_of l.inserts) plan
   -- after the listed modules the machine is this

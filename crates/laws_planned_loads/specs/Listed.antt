@@ -1,6 +1,6 @@
 -- What the course of the loads of listed modules is, by the machines of these loads. modprobe(8),
 -- proc(5).
-use Rattle.std.specs.Prelude.{◌≡◌, ℕ, List, [], ◌∷◌, map, reverse, Some, Ok, Err}
+use Rattle.std.specs.Prelude.{◌≡◌, ℕ, List, [], ◌∷◌, map, reverse, Some, Ok, Err, Option}
 use Rattle.km_names.specs.Path.{path_below}
 use Rattle.km_outside.specs.Contents.{Contents}
 use Rattle.km_course.specs.Course.{Run}
@@ -19,13 +19,13 @@ use Rattle.stages_loads.specs.Listed.{loads_listed}
 use Rattle.laws_planned_loads.specs.Files.{AreFileModules}
 use Rattle.laws_planned_loads.specs.Loads.{IsFirstRefused}
 
--- Each path is the first one of the dependency line of the module of its name.
-abbrev pub AreListedPaths : Index → List (List ℕ) → List (List ℕ) → Type 0
-AreListedPaths index [] [] = Unit {0}
-AreListedPaths index [] (path ∷ paths) = ⊥
-AreListedPaths index (name ∷ names) [] = ⊥
-AreListedPaths index (name ∷ names) (path ∷ paths) =
-    (path_listed index name ≡ Some path) × AreListedPaths index names paths
+-- Each path is the one that is found for its name.
+abbrev pub AreListedPaths : (List ℕ → Option (List ℕ)) → List (List ℕ) → List (List ℕ) → Type 0
+AreListedPaths found [] [] = Unit {0}
+AreListedPaths found [] (path ∷ paths) = ⊥
+AreListedPaths found (name ∷ names) [] = ⊥
+AreListedPaths found (name ∷ names) (path ∷ paths) =
+    (found name ≡ Some path) × AreListedPaths found names paths
 
 -- The modules of names went into a machine, one after the other: each was read of its file, and
 -- nothing else was done.
@@ -33,7 +33,7 @@ pub record ListedGoIn (held : Contents) (folder : List ℕ) (index : Index) (mac
     (names : List (List ℕ)) (after : Machine) (run : Run Machine) : Type 0 where
   pub paths : List (List ℕ)
   pub listed : List Module
-  pub found : AreListedPaths index names paths
+  pub found : AreListedPaths (path_listed index) names paths
   pub files : AreFileModules held folder paths listed
   pub loaded : load_all machine listed ≡ Ok after
   pub acts : run.acts ≡ map (λ path. read (path_below folder path)) paths
@@ -44,9 +44,9 @@ abbrev pub ListedAreOfMachine : Type 0
 ListedAreOfMachine =
     (held : Contents) (folder : List ℕ) (index : Index) (machine : Machine) (names : List (List ℕ))
     (after : Machine)
-    → ((loads_listed folder index machine names).run held).outcome ≡ value after
+    → ((loads_listed folder (path_listed index) machine names).run held).outcome ≡ value after
     → ListedGoIn held folder index machine (reverse names) after
-    ((loads_listed folder index machine names).run held)
+    ((loads_listed folder (path_listed index) machine names).run held)
 
 -- One of the listed modules was refused, and that is reported.
 pub record ListedIsRefused (machine : Machine) (ms : List Module) (fault : LoadFault)
@@ -66,6 +66,6 @@ abbrev pub ListedLoadsAreOfMachine : Type 0
 ListedLoadsAreOfMachine =
     (held : Contents) (folder : List ℕ) (index : Index) (machine : Machine)
     (names paths : List (List ℕ)) (ms : List Module)
-    → AreListedPaths index (reverse names) paths
+    → AreListedPaths (path_listed index) (reverse names) paths
     → AreFileModules held folder paths ms
-    → AreListedLoads machine ms ((loads_listed folder index machine names).run held)
+    → AreListedLoads machine ms ((loads_listed folder (path_listed index) machine names).run held)

@@ -27,7 +27,7 @@ use Rattle.laws_planned_loads.proofs.RunLemmas.{both-read, joined, run-ends, run
 use Rattle.laws_planned_loads.proofs.RunLemmas.{run-then, run_of}
 use Rattle.laws_planned_loads.proofs.WholeLemmas.{lines-said, only-machine}
 use Rattle.command_remove.specs.declared.course.Removal.{Removal}
-use Rattle.command_remove.specs.Listed.{takes_listed}
+use Rattle.stages_loads.specs.Listed.{loads_listed}
 use Rattle.command_remove.specs.Lines.{left_lines, line_of_two, step_lines, unloaded_line}
 use Rattle.command_remove.specs.Remove.{carries_out, chosen_outcome, first_owner, removal_of}
 use Rattle.command_remove.specs.Remove.{removes, removes_names, step_name, steps_outcome}
@@ -36,6 +36,7 @@ use Rattle.command_remove.proofs.RemoveSteps.{after_check, after_known, after_le
 use Rattle.command_remove.proofs.RemoveSteps.{after_listed, after_machine, after_names, after_steps}
 use Rattle.command_remove.proofs.RemoveSteps.{passes-dry, passes-none, refuses-chosen}
 use Rattle.command_remove.proofs.TakenLemmas.{step-names, steps-unload}
+use Rattle.command_remove.specs.Listed.{well_formed_path}
 use Rattle.laws_planned_removals.specs.Listed.{AreTaken}
 use Rattle.laws_planned_removals.specs.Courses.{AreSaying, CameToRemoval, CoursesRemove}
 use Rattle.laws_planned_removals.specs.Courses.{IsRemovalCourse, Removing, SaysLines, removed_names}
@@ -100,7 +101,7 @@ module _ (held : Contents) (dry_run : Bool) (asked : ModprobeWords) (r : Removin
   making = reads_machine came.tables.map asked.symvers region
 
   abbrev listing : Stage Machine
-  listing = takes_listed folder known.indexes start known.loaded
+  listing = loads_listed folder (well_formed_path known.indexes) start known.loaded
 
   abbrev rest : Run ⊤
   rest = (removes_names removal known machine).run held

@@ -46,8 +46,8 @@ use Rattle.laws_indexed_folder.specs.Steps.{inserted_names}
 use Rattle.laws_planned_loads.specs.Files.{AreFileModules, IsFileModule}
 use Rattle.laws_planned_loads.proofs.CourseLemmas.{facts-at, have-values}
 use Rattle.laws_planned_loads.proofs.FileLemmas.{line-module, plain-path, one-module}
-use Rattle.command_remove.specs.Listed.{takes_listed, well_formed_path}
-use Rattle.laws_planned_removals.specs.Listed.{AreWellFormedPaths}
+use Rattle.command_remove.specs.Listed.{well_formed_path}
+use Rattle.laws_planned_loads.specs.Listed.{AreListedPaths}
 
 -- ---- where no value is bad, each is the dependency line of its name
 
@@ -144,7 +144,8 @@ module _ (held : Contents) (folder : List ℕ) (indexes : Indexes)
 
   -- so both load listed modules alike
   pub listed-alike : (machine : Machine) (names : List (List ℕ))
-      → takes_listed folder indexes machine names ≡ loads_listed folder indexes.dep machine names
+      → loads_listed folder (well_formed_path indexes) machine names
+      ≡ loads_listed folder (path_listed indexes.dep) machine names
   listed-alike machine names =
       λ i. each_from
       (λ (before : Machine) name. loads_listed_at folder before name
@@ -165,7 +166,8 @@ module _ (held : Contents) (folder : List ℕ) (indexes : Indexes)
       ∙ own-line dep name path none own)
 
   pub steps-formed : (steps : List PlanStep) → All (IsAtOwnPath dep) steps
-      → AreWellFormedPaths indexes (inserted_names steps) (paths_of (flat_map inserted steps))
+      → AreListedPaths (well_formed_path indexes) (inserted_names steps)
+      (paths_of (flat_map inserted steps))
   steps-formed [] all = tt
   steps-formed (Insert name path options ∷ steps) all = (
     own-formed name path (All-head (IsAtOwnPath dep) (Insert name path options) steps all),
@@ -200,8 +202,9 @@ steps-kinds indexes none (Builtin name ∷ steps) all =
 -- ---- paths
 
 pub formed-append : (indexes : Indexes) (names others paths more : List (List ℕ))
-    → AreWellFormedPaths indexes names paths → AreWellFormedPaths indexes others more
-    → AreWellFormedPaths indexes (names ++ others) (paths ++ more)
+    → AreListedPaths (well_formed_path indexes) names paths
+    → AreListedPaths (well_formed_path indexes) others more
+    → AreListedPaths (well_formed_path indexes) (names ++ others) (paths ++ more)
 formed-append indexes [] others [] more are rest = rest
 formed-append indexes [] others (path ∷ paths) more are rest = absurd are
 formed-append indexes (name ∷ names) others [] more are rest = absurd are
@@ -209,7 +212,8 @@ formed-append indexes (name ∷ names) others (path ∷ paths) more are rest =
     (are.0, formed-append indexes names others paths more are.1 rest)
 
 pub formed-moved : (from to : Indexes) (names paths : List (List ℕ)) → to.dep ≡ from.dep
-    → AreWellFormedPaths from names paths → AreWellFormedPaths to names paths
+    → AreListedPaths (well_formed_path from) names paths
+    → AreListedPaths (well_formed_path to) names paths
 formed-moved from to [] [] same are = tt
 formed-moved from to [] (path ∷ paths) same are = absurd are
 formed-moved from to (name ∷ names) [] same are = absurd are
@@ -220,7 +224,8 @@ formed-moved from to (name ∷ names) (path ∷ paths) same are = (
 )
 
 pub formed-one : (indexes : Indexes) (names paths others : List (List ℕ))
-    → AreWellFormedPaths indexes names paths → AreWellFormedPaths indexes names others
+    → AreListedPaths (well_formed_path indexes) names paths
+    → AreListedPaths (well_formed_path indexes) names others
     → paths ≡ others
 formed-one indexes [] [] [] are same = refl
 formed-one indexes [] [] (path ∷ others) are same = absurd same

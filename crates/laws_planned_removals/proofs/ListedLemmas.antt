@@ -28,7 +28,8 @@ use Rattle.laws_planned_loads.specs.Files.{IsFileModule}
 use Rattle.laws_planned_loads.proofs.FileLemmas.{line-module, module-read}
 use Rattle.laws_planned_loads.proofs.RunLemmas.{OnlyReads, goes-on, reads-each, reads-file}
 use Rattle.laws_planned_loads.proofs.RunLemmas.{reads-given, reads-then, reads-when}
-use Rattle.command_remove.specs.Listed.{takes_listed, takes_listed_one, well_formed_path}
+use Rattle.stages_loads.specs.Listed.{loads_listed, loads_listed_one}
+use Rattle.command_remove.specs.Listed.{well_formed_path}
 use Rattle.laws_planned_removals.specs.Listed.{AreTaken, ListedAreTaken}
 use Rattle.laws_planned_loads.proofs.ListedLemmas.{path-given, stepped}
 
@@ -52,9 +53,9 @@ only-at folder machine name found =
     (λ m. reads-given _))
 
 pub only-taken : (folder : List ℕ) (indexes : Indexes) (machine : Machine) (names : List (List ℕ))
-    → OnlyReads (takes_listed folder indexes machine names)
+    → OnlyReads (loads_listed folder (well_formed_path indexes) machine names)
 only-taken folder indexes machine names =
-    reads-each (takes_listed_one folder indexes)
+    reads-each (loads_listed_one folder (well_formed_path indexes))
     (λ before name. only-at folder before name (well_formed_path indexes name)) machine
     (reverse names)
 
@@ -77,12 +78,13 @@ record OneTaken (files : Contents) (folder : List ℕ) (indexes : Indexes) (mach
   found : well_formed_path indexes name ≡ Some path
   file : IsFileModule files folder path m
   took : step machine m ≡ Ok next
-  acts : ((takes_listed_one folder indexes machine name).run files).acts
+  acts : ((loads_listed_one folder (well_formed_path indexes) machine name).run files).acts
       ≡ read (path_below folder path) ∷ []
 
 one-taken : (files : Contents) (folder : List ℕ) (indexes : Indexes) (machine : Machine)
     (name : List ℕ) (next : Machine)
-    → ((takes_listed_one folder indexes machine name).run files).outcome ≡ value next
+    → ((loads_listed_one folder (well_formed_path indexes) machine name).run files).outcome
+    ≡ value next
     → OneTaken files folder indexes machine name next
 unfolding given
 one-taken files folder indexes machine name next is =
@@ -111,7 +113,9 @@ one-taken files folder indexes machine name next is =
 
 all-taken : (folder : List ℕ) (indexes : Indexes) (names : List (List ℕ)) (machine : Machine)
     (files : Contents) (last : Machine)
-    → ((each_from (takes_listed_one folder indexes) machine names).run files).outcome ≡ value last
+    → ((each_from
+    (loads_listed_one folder (well_formed_path indexes)) machine names).run files).outcome
+    ≡ value last
     → AreTaken files folder indexes machine names last
 unfolding given
 all-taken folder indexes [] machine files last is = record {
@@ -123,14 +127,16 @@ all-taken folder indexes [] machine files last is = record {
 }
 all-taken folder indexes (name ∷ names) machine files last is =
     let g
-    = goes-on (takes_listed_one folder indexes machine name)
-    (λ next. each_from (takes_listed_one folder indexes) next names) files last is in
+    = goes-on (loads_listed_one folder (well_formed_path indexes) machine name)
+    (λ next. each_from
+    (loads_listed_one folder (well_formed_path indexes)) next names) files last is in
     let next : Machine = g.mid in
     let one = one-taken files folder indexes machine name next g.first in
-    let rest : ((each_from (takes_listed_one folder indexes) next names).run files).outcome
+    let rest :
+    ((each_from (loads_listed_one folder (well_formed_path indexes)) next names).run files).outcome
     ≡ value last
     =
-    subst (λ done. ((each_from (takes_listed_one folder indexes) next names).run
+    subst (λ done. ((each_from (loads_listed_one folder (well_formed_path indexes)) next names).run
     (after done files)).outcome
     ≡ value last) one.acts g.rest in
     let others = all-taken folder indexes names next files last rest in

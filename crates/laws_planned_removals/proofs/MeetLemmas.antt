@@ -3,6 +3,7 @@ use Rattle.std.proofs.Common.{◌≡◌, ◌∙◌, ℕ, List, ◌++◌, reverse
 use Rattle.std.specs.Prelude.{codes, Option, Some, None, Result, Ok, All}
 use Rattle.std.specs.FinMap.{get}
 use Rattle.std.proofs.lemmas.List.{reverse-append, reverse-reverse}
+use Rattle.command_remove.specs.Listed.{well_formed_path}
 use Rattle.km_names.specs.First.{first}
 use Rattle.km_names.specs.Path.{path_below}
 use Rattle.km_outside.specs.Contents.{Contents}
@@ -43,7 +44,7 @@ use Rattle.laws_planned_loads.proofs.KnownLemmas.{KnowsFolder, knows-folder}
 use Rattle.laws_planned_removals.specs.Courses.{CameToRemoval}
 use Rattle.laws_planned_removals.specs.Join.{CameToLast, Follows, Loaded, MeetsLoad}
 use Rattle.laws_planned_removals.specs.Join.{RemovalMeetsLoad}
-use Rattle.laws_planned_removals.specs.Listed.{AreWellFormedPaths}
+use Rattle.laws_planned_loads.specs.Listed.{AreListedPaths}
 use Rattle.laws_planned_removals.proofs.JoinLemmas.{files-append, files-one, files-stay}
 use Rattle.laws_planned_removals.proofs.JoinLemmas.{formed-append, formed-moved, formed-one}
 use Rattle.laws_planned_removals.proofs.JoinLemmas.{listed-alike, steps-formed, steps-named}
@@ -143,8 +144,8 @@ module _ (held later : Contents) (asked : ModprobeWords) (l : Loaded) (known : K
       ∙ reverse-append (reverse (inserted_names l.loading.steps)) l.loading.known.loaded
       ∙ ap (λ ns. reverse l.loading.known.loaded ++ ns)
       (reverse-reverse (inserted_names l.loading.steps)) in
-      let formed : AreWellFormedPaths known.indexes (reverse known.loaded) paths =
-      subst (λ ns. AreWellFormedPaths known.indexes ns paths) (sym all_names)
+      let formed : AreListedPaths (well_formed_path known.indexes) (reverse known.loaded) paths =
+      subst (λ ns. AreListedPaths (well_formed_path known.indexes) ns paths) (sym all_names)
       (formed-moved l.loading.known.indexes known.indexes
       (reverse l.loading.known.loaded ++ inserted_names l.loading.steps) paths index
       (formed-append l.loading.known.indexes (reverse l.loading.known.loaded)

@@ -22,9 +22,10 @@ use Rattle.stages_known.specs.Known.{reads_known}
 use Rattle.stages_known.specs.Named.{names_outcome}
 use Rattle.laws_planned_loads.specs.Acts.{is_reading}
 use Rattle.laws_planned_loads.specs.Courses.{HasMachine}
-use Rattle.command_remove.specs.Listed.{takes_listed}
+use Rattle.stages_loads.specs.Listed.{loads_listed}
 use Rattle.command_remove.specs.Lines.{left_lines, line_of_two, step_lines, unloaded_line}
 use Rattle.command_remove.specs.Remove.{first_owner, removes}
+use Rattle.command_remove.specs.Listed.{well_formed_path}
 
 -- What a removal is about:
 -- - the kernel with addresses, and the region;
@@ -44,7 +45,8 @@ pub record CameToRemoval (held : Contents) (asked : ModprobeWords) (r : Removing
   pub knows : ((reads_known asked.config (modules_folder asked.dirname asked.version)
       asked.loaded).run held).outcome
       ≡ value r.known
-  pub listed : ((takes_listed (modules_folder asked.dirname asked.version) r.known.indexes
+  pub listed : ((loads_listed (modules_folder asked.dirname asked.version)
+      (well_formed_path r.known.indexes)
       (new_machine r.kernel r.region) r.known.loaded).run held).outcome
       ≡ value r.listed
   pub found : names_outcome r.known asked.use_blacklist asked.words ≡ value r.names

@@ -3,6 +3,7 @@ use Rattle.std.proofs.Common.{◌≡◌, ℕ, ◌+◌, ◌-◌, ◌<◌, ◌≤�
 use Rattle.std.proofs.Common.{get_or, sym, ap, subst, ◌∙◌}
 use Rattle.std.specs.Prelude.{Ok, reverse}
 use Rattle.std.proofs.lemmas.List.{take_more, reverse-append}
+use Rattle.stages_files.specs.KernelModules.{path_listed}
 use Rattle.index_read.specs.declared.index.Index.{Index}
 use Rattle.module_facts.specs.declared.module.Module.{Module}
 use Rattle.model_loader.specs.Machine.{Machine}
@@ -32,7 +33,7 @@ oldest-first names i name within is =
 
 -- the stage of the newer modules
 abbrev pub listed_others : List ℕ → Index → List (List ℕ) → Machine → Stage Machine
-listed_others folder index names machine = loads_listed folder index machine names
+listed_others folder index names machine = loads_listed folder (path_listed index) machine names
 
 -- what leads on from the first names leads on from the oldest of them and the newer ones
 pub leads-oldest : (step : Machine → List ℕ → Stage Machine) (whole : Stage Machine)

@@ -1,5 +1,6 @@
 // The modules that are listed as loaded.
 ghost use Rattle.std.specs.Prelude.{option_copied};
+ghost use Rattle.stages_files.specs.KernelModules.{path_listed};
 ghost use Rattle.km_course.specs.FollowsOn.{FollowsOnFiles, Returns};
 ghost use Rattle.stages_loads.specs.Listed.{listed_outcome, loads_listed, loads_listed_at};
 ghost use Rattle.stages_loads.specs.Listed.{loads_listed_one};
@@ -27,7 +28,7 @@ pub fn load_listed<F: Reads>(
     names: &[Name],
     files: &mut F,
 ) -> Result<Machine, Stop>
-    ensures { FollowsOnFiles (loads_listed folder.now index.now machine names.now)
+    ensures { FollowsOnFiles (loads_listed folder.now (path_listed index.now) machine names.now)
         F.seen files.old files.new result }
 {
     let mut left = names.len();
@@ -66,7 +67,7 @@ fn load_listed_one<F: Reads>(
     name: &Name,
     files: &mut F,
 ) -> Result<Machine, Stop>
-    ensures { FollowsOnFiles (loads_listed_one folder.now index.now machine name.now)
+    ensures { FollowsOnFiles (loads_listed_one folder.now (path_listed index.now) machine name.now)
         F.seen files.old files.new result }
 {
     let found = path_listed(index, name.as_bytes());

@@ -1,5 +1,6 @@
 use Rattle.std.specs.Prelude.{⊤}
 use Rattle.std.proofs.lemmas.Result.{err_from_is_err_and}
+use Rattle.stages_files.specs.KernelModules.{path_listed}
 use Rattle.km_course.proofs.Steps.{next, exits, gave}
 use Rattle.km_course.proofs.Following.{along}
 use Rattle.stages_loads.specs.Listed.{loads_listed}
@@ -14,7 +15,8 @@ returns-in_err-listed g c = λ err.
     exits _ _
     (after_listed c.args.basis.now.folder c.args.images.now c.args.steps.now c.args.inserts.now)
     p.1 p.2
-    (along (loads_listed c.args.basis.now.folder known.indexes.dep c.args.machine) _ known.loaded
+    (along (loads_listed c.args.basis.now.folder
+    (path_listed known.indexes.dep) c.args.machine) _ known.loaded
     c.as_slice.ensures
     (c.in_err-listed.ensures (g.O.Out.seen c.args.out.now) err))
 
@@ -27,7 +29,8 @@ returns-in_err-say_plan g c = λ err.
     let listed = c.in_ok-listed.listed in
     next
     (after_listed c.args.basis.now.folder c.args.images.now c.args.steps.now c.args.inserts.now)
-    (along (loads_listed c.args.basis.now.folder known.indexes.dep c.args.machine) _ known.loaded
+    (along (loads_listed c.args.basis.now.folder
+    (path_listed known.indexes.dep) c.args.machine) _ known.loaded
     c.as_slice.ensures
     (c.in_ok-listed.ensures (g.O.Out.seen c.args.out.now) err))
     (exits _ _ (after_lines c.args.basis.now.folder c.args.images.now listed c.args.inserts.now) p.1
@@ -43,7 +46,8 @@ returns-in_err-load_all g c = λ err.
     let listed = c.in_ok-listed.listed in
     next
     (after_listed c.args.basis.now.folder c.args.images.now c.args.steps.now c.args.inserts.now)
-    (along (loads_listed c.args.basis.now.folder known.indexes.dep c.args.machine) _ known.loaded
+    (along (loads_listed c.args.basis.now.folder
+    (path_listed known.indexes.dep) c.args.machine) _ known.loaded
     c.as_slice.ensures
     (c.in_ok-listed.ensures (g.O.Out.seen c.args.out.now) err))
     (next (after_lines c.args.basis.now.folder c.args.images.now listed c.args.inserts.now)
@@ -59,7 +63,8 @@ returns g c = λ err.
     let listed = c.in_ok-listed.listed in
     next
     (after_listed c.args.basis.now.folder c.args.images.now c.args.steps.now c.args.inserts.now)
-    (along (loads_listed c.args.basis.now.folder known.indexes.dep c.args.machine) _ known.loaded
+    (along (loads_listed c.args.basis.now.folder
+    (path_listed known.indexes.dep) c.args.machine) _ known.loaded
     c.as_slice.ensures
     (c.in_ok-listed.ensures (g.O.Out.seen c.args.out.now) err))
     (next (after_lines c.args.basis.now.folder c.args.images.now listed c.args.inserts.now)

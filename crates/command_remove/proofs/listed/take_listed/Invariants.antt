@@ -3,16 +3,18 @@ use Rattle.km_outside.specs.OutSeen.{OutSeen}
 use Rattle.model_loader.specs.Machine.{Machine}
 use Rattle.km_course.specs.World.{world}
 use Rattle.km_course.proofs.Steps.{LeadsTo}
-use Rattle.command_remove.specs.Listed.{takes_listed}
+use Rattle.stages_loads.specs.Listed.{loads_listed}
 use Rattle.command_remove.proofs.listed.take_listed.Given as goal
+use Rattle.command_remove.specs.Listed.{well_formed_path}
 
 -- Whatever loads the newer modules from here loads all from the start.
 abbrev pub invariant-loop-left : goal.invariant-loop-left
 invariant-loop-left g l = record {
   leads : (out err : OutSeen)
-      → LeadsTo (λ (x : Machine). x) (takes_listed l.folder l.indexes l.fn.machine l.names)
+      → LeadsTo (λ (x : Machine). x)
+      (loads_listed l.folder (well_formed_path l.indexes) l.fn.machine l.names)
       (world (g.F.Reads.seen l.fn.files) out err)
-      (takes_listed l.folder l.indexes l.machine (take l.left l.names))
+      (loads_listed l.folder (well_formed_path l.indexes) l.machine (take l.left l.names))
       (world (g.F.Reads.seen l.files) out err);
   within : l.left ≤ length l.names;
 }
