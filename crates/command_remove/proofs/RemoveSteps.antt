@@ -152,14 +152,14 @@ passes-dry false steps dry = cc
 pub passes-none : (dry_run : Bool) (steps : List RemoveStep) → dry_run ≡ false
     → first_owner steps ≡ None → chosen_outcome dry_run steps ≡ value tt
 unfolding chosen_outcome
-passes-none false steps dry none = ap (λ o. value_unless RemoveChosen o tt) none
+passes-none false steps dry none = ap (λ o. value_unless {X = ⊤} RemoveChosen o tt) none
 passes-none true steps dry none = cc
 
 pub refuses-chosen : (dry_run : Bool) (steps : List RemoveStep) (name : List ℕ) → dry_run ≡ false
     → first_owner steps ≡ Some name
     → chosen_outcome dry_run steps ≡ end (Refused (RemoveChosen name))
 unfolding chosen_outcome
-refuses-chosen false steps name dry is = ap (λ o. value_unless RemoveChosen o tt) is
+refuses-chosen false steps name dry is = ap (λ o. value_unless {X = ⊤} RemoveChosen o tt) is
 refuses-chosen true steps name dry is = cc
 
 -- ---- what is taken out

@@ -534,8 +534,8 @@ module _ (held : Contents) (asked : ModprobeWords) where
       (other-in_use machine (in_use machine (is_asked machine names))
       (removal_steps machine rules ignored names))
 
-  other-owner : (name : Option (List ℕ)) (e : End) → value_unless RemoveChosen name tt ≡ end e
-      → Other e
+  other-owner : (name : Option (List ℕ)) (e : End)
+      → value_unless {X = ⊤} RemoveChosen name tt ≡ end e → Other e
   other-owner None e is = absurd (no-end tt e is)
   other-owner (Some name) e is = so-ends Other (Refused (RemoveChosen name)) e tt is
 
