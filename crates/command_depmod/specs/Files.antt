@@ -1,6 +1,7 @@
 -- The files that `depmod` leaves: which there are, in which order, and what they have. depmod(8),
 -- modules.dep(5).
-use Rattle.std.specs.Prelude.{ℕ, Bool, List, [], ◌∷◌, codes, Option, Some, None, if◌then◌else◌}
+use Rattle.std.specs.Prelude.{ℕ, Bool, List, [], ◌∷◌, codes, if◌then◌else◌}
+use Rattle.std.specs.Option.{option_map_or}
 use Rattle.depmod_core.specs.declared.file.OutputFile.TheVariants.{Dep, DepBin, Alias, AliasBin}
 use Rattle.depmod_core.specs.declared.file.OutputFile.TheVariants.{Softdep, Symbols, SymbolsBin}
 use Rattle.depmod_core.specs.declared.file.OutputFile.TheVariants.{BuiltinBin, Unmet}
@@ -30,13 +31,8 @@ file_name (Usual file) = usual_name file
 file_name BuiltinAliasBin = codes "modules.builtin.alias.bin"
 file_name Devname = codes "modules.devname"
 
--- what one of the two has, if they are made
-abbrev pub extra_content : (ExtraFiles → List ℕ) → Option ExtraFiles → List ℕ
-extra_content bytes None = []
-extra_content bytes (Some extra) = bytes extra
-
 -- The bytes of one of the files.
 abbrev pub content : DepmodFiles → DepmodFile → List ℕ
 content made (Usual file) = usual_content made.usual file
-content made BuiltinAliasBin = extra_content (λ (e : ExtraFiles). e.builtin_alias_bin) made.extra
-content made Devname = extra_content (λ (e : ExtraFiles). e.devname) made.extra
+content made BuiltinAliasBin = option_map_or (λ (e : ExtraFiles). e.builtin_alias_bin) made.extra []
+content made Devname = option_map_or (λ (e : ExtraFiles). e.devname) made.extra []

@@ -6,9 +6,9 @@ use Rattle.std.specs.List.{find, position, position_or_len, slice_get}
 use Rattle.std.proofs.lemmas.Bool.{lt-ltb, ltb-true}
 use Rattle.std.proofs.lemmas.Option.{slice_get_cases}
 use Rattle.std.proofs.lemmas.List.Folds.{find_at}
+use Rattle.std.specs.Option.{option_map_or}
 use Rattle.elf_sections.specs.declared.section.Section.{Section}
 use Rattle.elf_sections.specs.Sections.{bytes_of}
-use Rattle.command_modinfo.specs.ModuleInfo.{bytes_if_any}
 
 from_some : (b : Bool) (n i : ℕ) → Some i ≡ cond b (Some n) None → (b ≡ true) × (n ≡ i)
 from_some true n i e = (refl, cc)
@@ -24,7 +24,7 @@ from_none false n e = refl
 pub named-found : (p : Section → Bool) (file : List ℕ) (list : List Section) (i : ℕ)
     (bytes : List ℕ)
     → Some i ≡ position p list → IfSome (slice_get list i) (λ s. bytes ≡ bytes_of file s)
-    → bytes ≡ bytes_if_any file (find p list)
+    → bytes ≡ option_map_or (bytes_of file) (find p list) []
 named-found p file list i bytes e h =
     let q
     = from_some (nat_lt (position_or_len p list) (length list)) (position_or_len p list) i e in
@@ -32,20 +32,21 @@ named-found p file list i bytes e h =
     let place : find p list ≡ slice_get list i = find_at p list ∙ ap (slice_get list) q.1 in
     elim (slice_get_cases list i).1 [
       | inl found ↦
-          subst (λ o. bytes ≡ bytes_if_any file o) (sym (place ∙ found.2))
+          subst (λ o. bytes ≡ option_map_or (bytes_of file) o []) (sym (place ∙ found.2))
           (subst (λ o. IfSome o (λ s. bytes ≡ bytes_of file s)) found.2 h)
       | inr past ↦ absurd (omega arith)
     ]
 
 pub named-absent : (p : Section → Bool) (file : List ℕ) (list : List Section)
-    → None ≡ position p list → [] ≡ bytes_if_any file (find p list)
+    → None ≡ position p list → [] ≡ option_map_or (bytes_of file) (find p list) []
 named-absent p file list e =
     let past
     = from_none (nat_lt (position_or_len p list) (length list)) (position_or_len p list) e in
     elim (slice_get_cases list (position_or_len p list)).1 [
       | inl found ↦ absurd
           (differ (nat_lt (position_or_len p list) (length list)) past (lt-ltb _ _ found.1))
-      | inr none ↦ subst (λ o. [] ≡ bytes_if_any file o) (sym (find_at p list ∙ none.1)) refl
+      | inr none ↦ subst (λ o. [] ≡ option_map_or (bytes_of file) o [])
+          (sym (find_at p list ∙ none.1)) refl
     ]
   where
     differ : (b : Bool) → b ≡ false → b ≡ true → ⊥

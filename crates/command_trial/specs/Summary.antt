@@ -1,10 +1,11 @@
 -- What a trial says: five numbers, read off what its two commands left. The form is this project's
 -- own.
-use Rattle.std.specs.Prelude.{ℕ, ◌==◌, List, [], ◌∷◌, ◌++◌, length, codes, Option, Some, None}
+use Rattle.std.specs.Prelude.{ℕ, ◌==◌, List, [], ◌∷◌, ◌++◌, length, codes}
 use Rattle.std.specs.Prelude.{unwrap_or}
 use Rattle.std.specs.Fmt.{decimal}
 use Rattle.std.specs.List.{after_first, flat_map}
 use Rattle.std.specs.FinMap as map
+use Rattle.std.specs.Option.{option_to_list}
 use Rattle.hex.specs.Hex.{encode_lower}
 use Rattle.sha2.specs.Sha256.{sha256}
 use Rattle.km_names.specs.Lines.{lines_of}
@@ -17,14 +18,10 @@ use Rattle.km_course.specs.Inner.{Left}
 abbrev pub bytes_at : List ℕ → Contents → List ℕ
 bytes_at path files = unwrap_or (map.get files path) []
 
--- what follows the start in the line, if the line begins with it
-abbrev pub rest_if_any : Option (List ℕ) → List (List ℕ)
-rest_if_any None = []
-rest_if_any (Some rest) = rest ∷ []
-
 -- What follows the start in each line of a text that begins with it, in the order of the lines.
 abbrev pub rests_of_lines : List ℕ → List ℕ → List (List ℕ)
-rests_of_lines start text = flat_map (λ line. rest_if_any (rest_after start line)) (lines_of text)
+rests_of_lines start text = flat_map (λ line. option_to_list (rest_after start line))
+    (lines_of text)
 
 -- The paths after the colon of a line of modules.dep, which is a path, a colon, and the paths of
 -- those that it needs. modules.dep(5).

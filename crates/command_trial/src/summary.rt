@@ -1,11 +1,12 @@
 // What a trial reports.
 ghost use Rattle.std.specs.Prelude.{◌≡◌, ◌++◌, IfOk, List, OnOk, ℕ};
 ghost use Rattle.std.specs.Fmt.{decimal};
+ghost use Rattle.std.specs.Option.{option_to_list};
 ghost use Rattle.sha2.specs.Hashers.{Holds256};
 ghost use Rattle.sha2.specs.Sha256.{sha256};
 ghost use Rattle.km_outside.specs.Contents.{rest_after};
 ghost use Rattle.command_trial.specs.Summary.{bytes_at, dependencies_left, image_path, images_of};
-ghost use Rattle.command_trial.specs.Summary.{loaded, rest_if_any, stated, summary};
+ghost use Rattle.command_trial.specs.Summary.{loaded, stated, summary};
 
 use crate::lines::{count_lines, count_paths};
 use crate::words::IMAGES;
@@ -110,7 +111,8 @@ fn add_image(
 ) -> Result<(), AllocError>
     ensures { OnOk result ((before : List ℕ) → Holds256 hasher.old before
         → Holds256 hasher.new
-        (before ++ images_of files.now.contents (rest_if_any (rest_after LOADED.now line.now)))) }
+        (before ++ images_of files.now.contents
+        (option_to_list (rest_after LOADED.now line.now)))) }
 {
     if let Some(rest) = line.strip_prefix(LOADED) {
         let path = image_path(alloc, rest)?;

@@ -1,7 +1,7 @@
 -- What the top call guarantees of its status, for every kind of objects that it gets.
 use Rattle.std.specs.Prelude.{◌≡◌, ◌⊎◌, ℕ, ◌≤◌, ◌==◌, true, false, if◌then◌else◌, List, [], ◌∷◌}
 use Rattle.std.specs.Prelude.{◌++◌, length, Option, Some, None, IfSome, IsSomeAnd, Result, Ok, Err}
-use Rattle.std.specs.Prelude.{⊤}
+use Rattle.std.specs.Prelude.{⊤, unwrap_or}
 use Rattle.km_outside.specs.Counts.{Rose}
 use Rattle.km_outside.specs.OutSeen.{OutSeen, WriteAnswers}
 use Rattle.km_outside.specs.declared.out.OutFailed.{OutFailed}
@@ -58,15 +58,10 @@ failed_act (put path bytes) = FileFault path
 failed_act (say bytes) = OutputFault
 failed_act (warn bytes) = WarningFault
 
--- The bytes of a line, if there is one.
-abbrev pub line_bytes : Option (List ℕ) → List ℕ
-line_bytes None = []
-line_bytes (Some text) = text
-
 -- The line of status 3 after this act failed.
 abbrev pub failed_line : Option Act → List ℕ
 failed_line None = []
-failed_line (Some act) = line_bytes (stop_line (failed_act act))
+failed_line (Some act) = unwrap_or (stop_line (failed_act act)) []
 
 -- Why an act failed: the count of its object rose. Files that are sure have no failing call, and an
 -- output with a known capacity fails only past it.

@@ -1,14 +1,14 @@
 -- What the acts of a depmod leave, whole and cut short.
 use Rattle.std.proofs.Common.{◌≡◌, ◌∙◌, ℕ, zero, suc, ◌+◌, ◌≤◌, Bool, true, false, List, [], ◌∷◌}
 use Rattle.std.proofs.Common.{◌++◌, length, take, flat_map, None, refl, sym, ap, subst, inl, inr}
-use Rattle.std.proofs.Common.{append_assoc, append-nil}
+use Rattle.std.proofs.Common.{append_assoc, append-nil, unwrap_or}
 use Rattle.std.specs.Prelude.{Option, Some, is_some, if◌then◌else◌, ⊤}
 use Rattle.std.specs.List.{list_all}
 use Rattle.std.proofs.lemmas.List.{take-append-le}
 use Rattle.std.proofs.Math.Seq.{take-append-add}
 use Rattle.km_names.specs.Path.{path_below}
 use Rattle.km_outside.specs.Contents.{Contents}
-use Rattle.km_course.specs.Carries.{closing_acts, line_bytes, outcome_line}
+use Rattle.km_course.specs.Carries.{closing_acts, outcome_line}
 use Rattle.km_course.specs.Course.{Act, Outcome}
 use Rattle.km_course.specs.Course.Act.{put, warn}
 use Rattle.km_course.specs.Course.Outcome.{value, end}
@@ -49,13 +49,13 @@ shows-on first rest shown held out err h =
     }
 
 after-line : (line : Option (List ℕ)) (shown : Shown)
-    → Shows (done (warned line) shown) shown.files shown.out (shown.err ++ line_bytes line)
+    → Shows (done (warned line) shown) shown.files shown.out (shown.err ++ unwrap_or line [])
 after-line None shown = record { files = refl; out = refl; err = sym (append-nil shown.err) }
 after-line (Some text) shown = record { files = refl; out = refl; err = refl }
 
 abbrev lines_of_all : Bool → List Unbound → List ℕ
 lines_of_all versions obstacles =
-    flat_map (λ obstacle. line_bytes (warning_line versions obstacle)) obstacles
+    flat_map (λ obstacle. unwrap_or (warning_line versions obstacle) []) obstacles
 
 after-warnings : (versions : Bool) (obstacles : List Unbound) (shown : Shown)
     → Shows (done (warn_acts versions obstacles) shown) shown.files shown.out
@@ -71,7 +71,7 @@ after-warnings versions (o ∷ os) shown =
       out = rest.out ∙ first.out;
       err =
           rest.err ∙ ap (λ err. err ++ lines_of_all versions os) first.err
-          ∙ append_assoc shown.err (line_bytes line) (lines_of_all versions os);
+          ∙ append_assoc shown.err (unwrap_or line []) (lines_of_all versions os);
     })
 
 after-wanted : (errsyms versions : Bool) (obstacles : List Unbound) (shown : Shown)

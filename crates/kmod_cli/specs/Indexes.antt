@@ -2,8 +2,8 @@
 -- folder, over the kernel's table that is named, and they decode. Or it names the first bad module
 -- or the cycle, and leaves files as they were. depmod(8), modules.dep(5).
 use Rattle.std.specs.Prelude.{◌≡◌, ℕ, List, [], ◌++◌, take, flat_map, Some, None, is_some}
-use Rattle.std.specs.Prelude.{if◌then◌else◌}
-use Rattle.km_course.specs.Carries.{line_bytes, outcome_status}
+use Rattle.std.specs.Prelude.{if◌then◌else◌, unwrap_or}
+use Rattle.km_course.specs.Carries.{outcome_status}
 use Rattle.km_course.specs.Course.{Outcome}
 use Rattle.km_course.specs.Course.Outcome.{value, end}
 use Rattle.km_course.specs.Lines.{end_line, usage}
@@ -41,7 +41,7 @@ printed asked i = flat_map (content (made_of i)) (files_printed asked)
 abbrev pub warnings : DepmodWords → IndexedTree → List ℕ
 warnings asked i =
     if asked.errsyms
-    then flat_map (λ obstacle. line_bytes (warning_line (is_some asked.symvers) obstacle))
+    then flat_map (λ obstacle. unwrap_or (warning_line (is_some asked.symvers) obstacle) [])
     (unmet (modules_of i.tree) (seen_kernel i.table))
     else []
 

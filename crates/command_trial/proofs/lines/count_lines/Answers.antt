@@ -1,6 +1,6 @@
 use Rattle.std.proofs.Common.{◌≡◌, length, arith}
+use Rattle.std.specs.Option.{option_to_list}
 use Rattle.km_outside.specs.Contents.{rest_after}
-use Rattle.command_trial.specs.Summary.{rest_if_any}
 use Rattle.command_trial.proofs.LineSteps.{count-none}
 use Rattle.command_trial.proofs.lines.count_lines.Goals as goal
 
@@ -10,6 +10,6 @@ returns c =
     omega (
       arith,
       c.loop-left.invariant.0,
-      count-none (λ line. rest_if_any (rest_after c.args.start.now line)) c.loop-left.left.now
+      count-none (λ line. option_to_list (rest_after c.args.start.now line)) c.loop-left.left.now
           over,
     )

@@ -1,7 +1,7 @@
 use Rattle.std.proofs.Common.{◌≡◌, codes, length, ap, ◌∙◌, arith}
+use Rattle.std.specs.Option.{option_to_list}
 use Rattle.sha2.specs.Sha256.{sha256}
 use Rattle.km_outside.specs.Contents.{rest_after}
-use Rattle.command_trial.specs.Summary.{rest_if_any}
 use Rattle.command_trial.proofs.LineSteps.{images-none}
 use Rattle.command_trial.proofs.summary.digest_of_images.Goals as goal
 
@@ -11,5 +11,5 @@ returns c =
     let before = c.loop-left.invariant.0 in
     c.finalize.ensures before c.loop-left.invariant.1
     ∙ ap sha256 (images-none c.args.files.now.contents
-    (λ line. rest_if_any (rest_after (codes "loaded ") line)) before _ c.loop-left.left.now over
+    (λ line. option_to_list (rest_after (codes "loaded ") line)) before _ c.loop-left.left.now over
     c.loop-left.invariant.2)
