@@ -24,3 +24,11 @@ fields_of bytes = map field_of (filter is_text (slice_split (λ b. b == 0) bytes
 unfoldable pub values_of_key : List ℕ → List Field → List (List ℕ)
 values_of_key key fields =
     map (λ field. field.value) (filter (λ field. bytes_eq field.key key) fields)
+
+-- The parameter that a value of `parm` or `parmtype` describes: the bytes before the first `:`, or
+-- all if there is none. Its description is what follows. The kernel's include/linux/moduleparam.h.
+abbrev pub parameter_of : List ℕ → List ℕ
+parameter_of value = before_first (λ b. b == 58) value
+
+abbrev pub description_of : List ℕ → List ℕ
+description_of value = after_first (λ b. b == 58) value

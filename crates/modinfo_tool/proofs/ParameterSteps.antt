@@ -10,31 +10,32 @@ use Rattle.std.proofs.lemmas.Cmp.{nat_list_eq_equiv}
 use Rattle.std.proofs.lemmas.List.{take_more}
 use Rattle.std.proofs.lemmas.List.Folds.{find-append}
 use Rattle.modinfo_fields.specs.declared.piece.Field.{Field}
-use Rattle.modinfo_tool.specs.Parameters.{name_of, rest_of, is_parameter, parameter_names}
-use Rattle.modinfo_tool.specs.Parameters.{first_told, described}
+use Rattle.modinfo_fields.specs.Fields.{parameter_of, description_of}
+use Rattle.modinfo_tool.specs.Parameters.{is_parameter, parameter_names, first_told, described}
 use Rattle.name_table.specs.FirstSeen.{first_seen}
 use Rattle.name_table.specs.declared.key.NameKey.{NameKey}
 use Rattle.modinfo_tool.proofs.LineSteps.{passing-taken, passing-left}
 
 map-push : (xs : List Field) (x : Field)
-    → map (λ (field : Field). name_of field.value) (xs ++ x ∷ [])
-    ≡ map (λ (field : Field). name_of field.value) xs ++ name_of x.value ∷ []
+    → map (λ (field : Field). parameter_of field.value) (xs ++ x ∷ [])
+    ≡ map (λ (field : Field). parameter_of field.value) xs ++ parameter_of x.value ∷ []
 map-push [] x = refl
-map-push (y ∷ ys) x = ap (λ l. name_of y.value ∷ l) (map-push ys x)
+map-push (y ∷ ys) x = ap (λ l. parameter_of y.value ∷ l) (map-push ys x)
 
 -- the names with the next field looked at
 module _ (xs : List Field) (i : ℕ) (x : Field) (here : slice_get xs i ≡ Some x) where
   pub names-taken : (old new : List (List ℕ)) (name : List ℕ) → is_parameter x ≡ true
       → ((names : List (List ℕ)) → old ≡ first_seen names → new ≡ first_seen (names ++ name ∷ []))
-      → name ≡ name_of x.value
+      → name ≡ parameter_of x.value
       → old ≡ parameter_names (take i xs) → new ≡ parameter_names (take (i + 1) xs)
   unfolding parameter_names
   names-taken old new name passes seen named so_far =
-      let names = map (λ (field : Field). name_of field.value) (filter is_parameter (take i xs)) in
+      let names = map (λ (field : Field). parameter_of field.value)
+      (filter is_parameter (take i xs)) in
       seen names so_far
       ∙ ap (λ n. first_seen (names ++ n ∷ [])) named
       ∙ ap first_seen (sym (map-push (filter is_parameter (take i xs)) x))
-      ∙ sym (ap (λ l. first_seen (map (λ (field : Field). name_of field.value) l))
+      ∙ sym (ap (λ l. first_seen (map (λ (field : Field). parameter_of field.value) l))
       (passing-taken is_parameter xs i x here passes))
 
   pub names-left : (names : List (List ℕ)) → is_parameter x ≡ false
@@ -42,7 +43,7 @@ module _ (xs : List Field) (i : ℕ) (x : Field) (here : slice_get xs i ≡ Some
   unfolding parameter_names
   names-left names fails so_far
       = so_far
-      ∙ sym (ap (λ l. first_seen (map (λ (field : Field). name_of field.value) l))
+      ∙ sym (ap (λ l. first_seen (map (λ (field : Field). parameter_of field.value) l))
       (passing-left is_parameter xs i x here fails))
 
 or-map : {X Y : Type 0} (f : X → Y) (a b : Option X)
@@ -50,34 +51,36 @@ or-map : {X Y : Type 0} (f : X → Y) (a b : Option X)
 or-map f None b = refl
 or-map f (Some x) b = refl
 
-told-one : (name value : List ℕ) (b : Bool) → bytes_eq (name_of value) name ≡ b
-    → option_map rest_of (cond (bytes_eq (name_of value) name) (Some value) None)
-    ≡ cond (bytes_eq (name_of value) name) (Some (rest_of value)) None
+told-one : (name value : List ℕ) (b : Bool) → bytes_eq (parameter_of value) name ≡ b
+    → option_map description_of (cond (bytes_eq (parameter_of value) name) (Some value) None)
+    ≡ cond (bytes_eq (parameter_of value) name) (Some (description_of value)) None
 told-one name value true is =
-    ap (λ b. option_map rest_of (cond b (Some value) None)) is
-    ∙ sym (ap (λ b. cond b (Some (rest_of value)) None) is)
+    ap (λ b. option_map description_of (cond b (Some value) None)) is
+    ∙ sym (ap (λ b. cond b (Some (description_of value)) None) is)
 told-one name value false is =
-    ap (λ b. option_map rest_of (cond b (Some value) None)) is
-    ∙ sym (ap (λ b. cond b (Some (rest_of value)) None) is)
+    ap (λ b. option_map description_of (cond b (Some value) None)) is
+    ∙ sym (ap (λ b. cond b (Some (description_of value)) None) is)
 
 -- the first description, with the next value looked at
 pub first_told-next : (values : List (List ℕ)) (i : ℕ) (value name : List ℕ) → i < length values
     → value ≡ get_or values i value
     → first_told (take (i + 1) values) name
     ≡ option_or (first_told (take i values) name)
-    (cond (bytes_eq (name_of value) name) (Some (rest_of value)) None)
+    (cond (bytes_eq (parameter_of value) name) (Some (description_of value)) None)
 unfolding first_told
 first_told-next values i value name within here =
-    ap (λ l. option_map rest_of (find (λ v. bytes_eq (name_of v) name) l))
+    ap (λ l. option_map description_of (find (λ v. bytes_eq (parameter_of v) name) l))
     (take_more values i value within)
-    ∙ ap (λ v. option_map rest_of (find (λ v. bytes_eq (name_of v) name) (take i values ++ v ∷ [])))
+    ∙ ap (λ v. option_map description_of
+    (find (λ v. bytes_eq (parameter_of v) name) (take i values ++ v ∷ [])))
     (sym here)
-    ∙ ap (option_map rest_of)
-    (find-append (λ v. bytes_eq (name_of v) name) (take i values) (value ∷ []))
-    ∙ or-map rest_of (find (λ v. bytes_eq (name_of v) name) (take i values))
-    (cond (bytes_eq (name_of value) name) (Some value) None)
-    ∙ ap (option_or (option_map rest_of (find (λ v. bytes_eq (name_of v) name) (take i values))))
-    (told-one name value (bytes_eq (name_of value) name) refl)
+    ∙ ap (option_map description_of)
+    (find-append (λ v. bytes_eq (parameter_of v) name) (take i values) (value ∷ []))
+    ∙ or-map description_of (find (λ v. bytes_eq (parameter_of v) name) (take i values))
+    (cond (bytes_eq (parameter_of value) name) (Some value) None)
+    ∙ ap (option_or
+    (option_map description_of (find (λ v. bytes_eq (parameter_of v) name) (take i values))))
+    (told-one name value (bytes_eq (parameter_of value) name) refl)
 
 -- what a look-up didn't find isn't there
 pub absent : {X : Type 0} (found : Option (Bor X)) (told : Option X) (none : Bool)

@@ -1,21 +1,13 @@
 -- The parameters of a module, as its fields `parm` and `parmtype` describe them: the kernel's
 -- MODULE_PARM_DESC and module_param write these as `NAME:REST` (include/linux/moduleparam.h).
 -- modinfo(8), "parameters".
-use Rattle.std.specs.Prelude.{ℕ, ◌==◌, ◌||◌, Bool, List, ◌++◌, Option, Some, None, option_map}
+use Rattle.std.specs.Prelude.{ℕ, ◌||◌, Bool, List, ◌++◌, Option, Some, None, option_map}
 use Rattle.std.specs.Prelude.{codes, map, filter}
-use Rattle.std.specs.List.{find, before_first, after_first}
+use Rattle.std.specs.List.{find}
 use Rattle.std.specs.Str.{bytes_eq}
 use Rattle.modinfo_fields.specs.declared.piece.Field.{Field}
-use Rattle.modinfo_fields.specs.Fields.{values_of_key}
+use Rattle.modinfo_fields.specs.Fields.{values_of_key, parameter_of, description_of}
 use Rattle.name_table.specs.FirstSeen.{first_seen}
-
--- The parameter that a value describes: the bytes before the first `:`, or all if there is none.
-abbrev pub name_of : List ℕ → List ℕ
-name_of value = before_first (λ b. b == 58) value
-
--- The description in a value: the bytes after the first `:`.
-abbrev pub rest_of : List ℕ → List ℕ
-rest_of value = after_first (λ b. b == 58) value
 
 -- Whether a field describes a parameter.
 abbrev pub is_parameter : Field → Bool
@@ -24,11 +16,12 @@ is_parameter field = bytes_eq field.key (codes "parm") || bytes_eq field.key (co
 -- The parameters that any field describes, in the order they are first seen in.
 unfoldable pub parameter_names : List Field → List (List ℕ)
 parameter_names fields =
-    first_seen (map (λ (field : Field). name_of field.value) (filter is_parameter fields))
+    first_seen (map (λ (field : Field). parameter_of field.value) (filter is_parameter fields))
 
 -- The description of this parameter by the first of some values that describes it.
 unfoldable pub first_told : List (List ℕ) → List ℕ → Option (List ℕ)
-first_told values name = option_map rest_of (find (λ value. bytes_eq (name_of value) name) values)
+first_told values name = option_map description_of
+    (find (λ value. bytes_eq (parameter_of value) name) values)
 
 -- The value of a parameter, by its text and its type.
 abbrev pub described : List ℕ → Option (List ℕ) → Option (List ℕ) → List ℕ

@@ -8,7 +8,8 @@ use Rattle.std.specs.Str.{bytes_eq}
 use Rattle.elf_object.specs.Object.{FileObject}
 use Rattle.km_names.specs.Path.{underscored}
 use Rattle.module_symbols.specs.Contents.{modinfo_bytes}
-use Rattle.modinfo_fields.specs.Fields.{fields_of, is_text, values_of_key}
+use Rattle.modinfo_fields.specs.Fields.{fields_of, is_text, values_of_key, parameter_of}
+use Rattle.modinfo_fields.specs.Fields.{description_of}
 use Rattle.param_apply.specs.declared.kind.ParamType.{ParamType}
 use Rattle.param_apply.specs.Kinds.{kind_of}
 use Rattle.param_apply.specs.Table.{Entry, entries, table_of}
@@ -22,18 +23,11 @@ is_same name other = bytes_eq (underscored name) (underscored other)
 abbrev pub type_texts : FileObject → List (List ℕ)
 type_texts o = values_of_key (codes "parmtype") (fields_of (modinfo_bytes o))
 
--- The name in such a text, and the type.
-abbrev pub text_name : List ℕ → List ℕ
-text_name text = before_first (λ b. b == 58) text
-
-abbrev pub text_type : List ℕ → List ℕ
-text_type text = after_first (λ b. b == 58) text
-
 -- The type of the parameter of a name, from the first text with the name, if the type is known.
 unfoldable pub kind_named : List (List ℕ) → List ℕ → Option ParamType
 kind_named texts name =
-    option_and_then (λ text. kind_of (text_type text))
-    (option_and_then (slice_get texts) (position (λ text. is_same (text_name text) name) texts))
+    option_and_then (λ text. kind_of (description_of text))
+    (option_and_then (slice_get texts) (position (λ text. is_same (parameter_of text) name) texts))
 
 -- A parameter: its name, the place of its value in the image, and its type.
 pub record Parameter : Type 0 where

@@ -12,7 +12,8 @@ ghost use Rattle.param_apply.specs.declared.fault.ParamFault.TheVariants.{Memory
 ghost use Rattle.param_apply.specs.Kinds.{kind_of};
 ghost use Rattle.param_apply.specs.Table.{entries, entry, entry_fault, table_fault, table_of};
 ghost use Rattle.param_apply.specs.Words.{kind_named, number_named, parameter, parameters};
-ghost use Rattle.param_apply.specs.Words.{text_name, text_type, type_texts};
+ghost use Rattle.modinfo_fields.specs.Fields.{parameter_of, description_of};
+ghost use Rattle.param_apply.specs.Words.{type_texts};
 
 use crate::ParamFault;
 use crate::kind::{ParamType, kind_of};
@@ -90,7 +91,7 @@ impl<'a> Parameters<'a> {
 struct Types {
     texts: Texts,
     names: OwnedNameTable,
-    ghost named: { IsTableOf names (map (λ text. Some (underscored (text_name text))) texts) },
+    ghost named: { IsTableOf names (map (λ text. Some (underscored (parameter_of text))) texts) },
 }
 
 impl Types {
@@ -106,7 +107,7 @@ impl Types {
     /// Returns the type in the text at a place, if there is a text and its type is known.
     fn kind_at(&self, place: Option<u32>) -> Option<ParamType>
         ensures { result
-            ≡ option_and_then (λ text. kind_of (text_type text))
+            ≡ option_and_then (λ text. kind_of (description_of text))
             (option_and_then (slice_get self.now.texts) place) }
     {
         let place = place?;
@@ -225,7 +226,7 @@ fn texts_section(object: &Object) -> &[u8]
 /// Returns the table of the names in texts.
 fn text_names(alloc: Global, texts: &[Blob]) -> Result<OwnedNameTable, AllocError>
     ensures { IfOk result
-        (λ t. IsTableOf t (map (λ text. Some (underscored (text_name text))) texts.now)) }
+        (λ t. IsTableOf t (map (λ text. Some (underscored (parameter_of text))) texts.now)) }
 {
     // No file has so many texts.
     if u32::MAX as usize <= texts.len() {

@@ -3,7 +3,8 @@ use Rattle.std.specs.Map.{lookup}
 use Rattle.std.specs.Option.{option_or}
 use Rattle.std.specs.Str.{bytes_eq}
 use Rattle.name_table.specs.declared.key.NameKey.{NameKey}
-use Rattle.modinfo_tool.specs.Parameters.{name_of, rest_of, first_told}
+use Rattle.modinfo_fields.specs.Fields.{parameter_of, description_of}
+use Rattle.modinfo_tool.specs.Parameters.{first_told}
 use Rattle.modinfo_tool.proofs.ParameterSteps.{first_told-next}
 use Rattle.modinfo_tool.proofs.parameters.first_told.Goals as goal
 
@@ -17,10 +18,10 @@ loop-value-init c =
 pub loop-value-preserved : goal.loop-value-preserved
 loop-value-preserved c = λ name.
     let value = c.value-item.result in
-    let named : c.split_at_byte.result.0.now ≡ name_of value
-    = c.split_at_byte.ensures.before ∙ ap name_of c.as_bytes.ensures in
-    let told : c.split_at_byte.result.1.now ≡ rest_of value
-    = c.split_at_byte.ensures.after ∙ ap rest_of c.as_bytes.ensures in
+    let named : c.split_at_byte.result.0.now ≡ parameter_of value
+    = c.split_at_byte.ensures.before ∙ ap parameter_of c.as_bytes.ensures in
+    let told : c.split_at_byte.result.1.now ≡ description_of value
+    = c.split_at_byte.ensures.after ∙ ap description_of c.as_bytes.ensures in
     c.in_ok-keep_first.ensures.ok name
     ∙ ap (λ o. option_or o
     (cond (bytes_eq c.split_at_byte.result.0.now name) (Some c.split_at_byte.result.1.now)
@@ -28,6 +29,6 @@ loop-value-preserved c = λ name.
     ∙ ap (λ n. option_or (first_told (take c.loop-value.value-index c.args.values.now) name)
     (cond (bytes_eq n name) (Some c.split_at_byte.result.1.now) None)) named
     ∙ ap (λ r. option_or (first_told (take c.loop-value.value-index c.args.values.now) name)
-    (cond (bytes_eq (name_of value) name) (Some r) None)) told
+    (cond (bytes_eq (parameter_of value) name) (Some r) None)) told
     ∙ sym (first_told-next c.args.values.now c.loop-value.value-index value name
     c.loop-value-test.true c.value-item.is)

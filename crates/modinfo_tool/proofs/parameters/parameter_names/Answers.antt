@@ -1,5 +1,6 @@
 use Rattle.std.proofs.Common.{◌≤◌, length, ap, ◌∙◌, sym, refl, arith}
-use Rattle.modinfo_tool.specs.Parameters.{name_of, parameter_names}
+use Rattle.modinfo_fields.specs.Fields.{parameter_of}
+use Rattle.modinfo_tool.specs.Parameters.{parameter_names}
 use Rattle.modinfo_tool.proofs.ParameterSteps.{names-taken, names-left}
 use Rattle.modinfo_tool.proofs.parameters.parameter_names.Goals as goal
 use Rattle.modinfo_tool.proofs.parameters.parameter_names.Goals.{in-Some+then-is_parameter+in_ok-insert}
@@ -17,7 +18,7 @@ loop-i-preserved c = elim c.match-get.branch [
       ∙ names-taken c.args.fields.now c.loop-i.i w.in-Some.field.now (sym w.in-Some.ensures.item)
       c.loop-i.names w.insert.new.self w.split_at_byte.result.0.now
       (sym w.is_parameter.ensures ∙ w.if-is_parameter.true) w.in_ok-insert.ensures.seen
-      (w.split_at_byte.ensures.before ∙ ap name_of w.as_bytes.ensures) c.loop-i.invariant
+      (w.split_at_byte.ensures.before ∙ ap parameter_of w.as_bytes.ensures) c.loop-i.invariant
   | in-Some+else-is_parameter w ↦
       w.names-is
       ∙ names-left c.args.fields.now c.loop-i.i w.in-Some.field.now (sym w.in-Some.ensures.item)
