@@ -5,13 +5,13 @@ use Rattle.std.specs.Prelude.{option_map, position}
 use Rattle.std.specs.List.{flat_map}
 use Rattle.std.specs.Str.{bytes_eq}
 use Rattle.elf_format.specs.declared.section.TheConstants.{SHT_PROGBITS, SHF_ALLOC}
-use Rattle.elf_write.specs.declared.part.Attributes.{Attributes}
 use Rattle.elf_write.specs.declared.part.Part.{Part}
 use Rattle.sheet_object.specs.declared.section.TheConstants.{FURTHER}
 use Rattle.sheet_object.specs.declared.sheet.SheetMore.{SheetMore}
 use Rattle.sheet_object.specs.declared.sheet.SheetSpace.{SheetSpace}
 use Rattle.sheet_object.specs.declared.sheet.SheetVersion.{SheetVersion}
 use Rattle.elf_write.specs.Number.{word, zeros, with_nul}
+use Rattle.elf_write.specs.Part.{plain}
 
 -- The content of `__version_ext_crcs`: the numbers of extended versions, 4 bytes each. The kernel's
 -- scripts/mod/modpost.c.
@@ -28,16 +28,11 @@ name_bytes ext = flat_map (λ (v : SheetVersion). with_nul v.name) ext
 abbrev pub space_bytes : List SheetSpace → List ℕ
 space_bytes spaces = flat_map (λ (p : SheetSpace). with_nul p.space) spaces
 
--- The attributes of the further sections: they have bytes in the file, and are loaded. gABI 4,
+-- A further section, by its name and its content. It has bytes in the file, and is loaded. gABI 4,
 -- "Sections".
-abbrev pub further_attributes : Attributes
-further_attributes =
-    record { kind = SHT_PROGBITS; flags = SHF_ALLOC; link = 0; info = 0; align = 8; entry_size = 0 }
-
--- A further section, by its name and its content.
 abbrev pub further_part : List ℕ → List ℕ → Part
 further_part name content =
-    record { name = name; attributes = further_attributes; content = content }
+    record { name = name; attributes = plain SHT_PROGBITS SHF_ALLOC 8; content = content }
 
 -- Sections that are present only if a list isn't empty.
 abbrev pub unless_empty : {X : Type 0} → List X → List Part → List Part
