@@ -50,5 +50,5 @@ relation_stop faults.Memory = Memory
 
 -- What a tree over a kernel results in.
 unfoldable pub relation_outcome : KernelTree → Outcome KernelTree
-relation_outcome tree = value_unless (λ refusal. refusal)
-    (relation_refusal (modules_of tree.facts) tree.kernel) tree
+relation_outcome tree =
+    value_unless (λ refusal. refusal) (relation_refusal (modules_of tree.facts) tree.kernel) tree

@@ -42,8 +42,8 @@ install_stop name = Ended (Refused (InstallChosen name))
 -- What a plan that is to be loaded results in: the modules that its steps load, or the refusal of
 -- the first step that runs a command.
 unfoldable pub inserts_outcome : List PlanStep → Outcome (List Insertion)
-inserts_outcome steps = value_unless InstallChosen (first (map command_owner steps))
-    (flat_map inserted steps)
+inserts_outcome steps =
+    value_unless InstallChosen (first (map command_owner steps)) (flat_map inserted steps)
 
 -- What happens to the images of a load that is requested.
 abbrev pub images_asked : ModprobeWords → Images

@@ -49,8 +49,8 @@ use Rattle.command_remove.specs.Listed.{well_formed_path}
 -- ---- the stages after each part of a removal
 
 abbrev pub taken_others : List ℕ → Indexes → List (List ℕ) → Machine → Stage Machine
-taken_others folder indexes names machine = loads_listed folder
-    (well_formed_path indexes) machine names
+taken_others folder indexes names machine =
+    loads_listed folder (well_formed_path indexes) machine names
 
 abbrev pub after_left : Machine → Stage ⊤
 after_left left = says_any (left_lines left.entries)

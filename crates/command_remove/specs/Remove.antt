@@ -61,8 +61,8 @@ first_owner steps = first (map command_owner steps)
 -- Whether steps are carried out: with `-n` they are only printed, and else the first that runs a
 -- command is refused.
 unfoldable pub chosen_outcome : Bool → List RemoveStep → Outcome ⊤
-chosen_outcome dry_run steps = if dry_run then value tt
-    else value_unless RemoveChosen (first_owner steps) tt
+chosen_outcome dry_run steps =
+    if dry_run then value tt else value_unless RemoveChosen (first_owner steps) tt
 
 -- ---- what is taken out
 

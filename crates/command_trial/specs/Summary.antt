@@ -20,8 +20,8 @@ bytes_at path files = unwrap_or (map.get files path) []
 
 -- What follows the start in each line of a text that begins with it, in the order of the lines.
 abbrev pub rests_of_lines : List ℕ → List ℕ → List (List ℕ)
-rests_of_lines start text = flat_map (λ line. option_to_list (rest_after start line))
-    (lines_of text)
+rests_of_lines start text =
+    flat_map (λ line. option_to_list (rest_after start line)) (lines_of text)
 
 -- The paths after the colon of a line of modules.dep, which is a path, a colon, and the paths of
 -- those that it needs. modules.dep(5).

@@ -20,8 +20,8 @@ parameter_names fields =
 
 -- The description of this parameter by the first of some values that describes it.
 unfoldable pub first_told : List (List ℕ) → List ℕ → Option (List ℕ)
-first_told values name = option_map description_of
-    (find (λ value. bytes_eq (parameter_of value) name) values)
+first_told values name =
+    option_map description_of (find (λ value. bytes_eq (parameter_of value) name) values)
 
 -- The value of a parameter, by its text and its type.
 abbrev pub described : List ℕ → Option (List ℕ) → Option (List ℕ) → List ℕ

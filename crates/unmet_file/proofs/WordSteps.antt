@@ -108,8 +108,8 @@ pub record AreThree (text : List ℕ) (w : List ℕ × List ℕ × List ℕ) : T
   pub third : is_graphic w.2 ≡ true
 
 pub two-written : (text : List ℕ) (w : List ℕ × List ℕ) → two_words text ≡ Some w → AreTwo text w
-two-written text w h = go (is_graphic (before_space text))
-    (is_graphic (past_space text)) refl refl h
+two-written text w h =
+    go (is_graphic (before_space text)) (is_graphic (past_space text)) refl refl h
   where
     go : (a b : Bool) → is_graphic (before_space text) ≡ a → is_graphic (past_space text) ≡ b
         → cond (a && b) (Some (before_space text, past_space text)) None ≡ Some w → AreTwo text w
@@ -122,8 +122,8 @@ two-written text w h = go (is_graphic (before_space text))
 
 pub three-written : (text : List ℕ) (w : List ℕ × List ℕ × List ℕ) → three_words text ≡ Some w
     → AreThree text w
-three-written text w h = go (is_graphic (before_space text))
-    (two_words (past_space text)) refl refl h
+three-written text w h =
+    go (is_graphic (before_space text)) (two_words (past_space text)) refl refl h
   where
     go : (a : Bool) (o : Option (List ℕ × List ℕ)) → is_graphic (before_space text) ≡ a
         → two_words (past_space text) ≡ o

@@ -15,8 +15,8 @@ pub loop-left-init : goal.loop-left-init
 loop-left-init g c = record {
   leads = λ out err.
       subst (λ names. LeadsTo (λ (x : Machine). x)
-      (loads_listed c.args.folder.now
-      (well_formed_path c.args.indexes.now) c.args.machine c.args.names.now)
+      (loads_listed c.args.folder.now (well_formed_path c.args.indexes.now) c.args.machine
+      c.args.names.now)
       (world (g.F.Reads.seen c.args.files.now) out err)
       (loads_listed c.args.folder.now (well_formed_path c.args.indexes.now) c.args.machine names)
       (world (g.F.Reads.seen c.args.files.now) out err))
@@ -31,9 +31,8 @@ returns-in_err-machine g c = λ out err.
     let folder = c.args.folder.now in
     let indexes = c.args.indexes.now in
     let names = c.args.names.now in
-    leads-oldest
-    (loads_listed_one folder
-    (well_formed_path indexes)) _ _ _ c.loop-left.machine names c.loop-left.left
+    leads-oldest (loads_listed_one folder (well_formed_path indexes)) _ _ _ c.loop-left.machine
+    names c.loop-left.left
     c.index-names-left.result c.loop-left-test.true c.loop-left.invariant.within
     c.index-names-left.is (c.loop-left.invariant.leads out err) _ _
     (exits _ _ (taken_others folder indexes (take (c.loop-left.left - 1) names)) p.1 p.2

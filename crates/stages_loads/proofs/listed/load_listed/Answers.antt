@@ -14,8 +14,8 @@ pub loop-left-init : goal.loop-left-init
 loop-left-init g c = record {
   leads = λ out err.
       subst (λ names. LeadsTo (λ (x : Machine). x)
-      (loads_listed c.args.folder.now
-      (path_listed c.args.index.now) c.args.machine c.args.names.now)
+      (loads_listed c.args.folder.now (path_listed c.args.index.now) c.args.machine
+      c.args.names.now)
       (world (g.F.Reads.seen c.args.files.now) out err)
       (loads_listed c.args.folder.now (path_listed c.args.index.now) c.args.machine names)
       (world (g.F.Reads.seen c.args.files.now) out err))
