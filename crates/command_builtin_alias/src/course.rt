@@ -1,13 +1,11 @@
 // The course of builtin-alias.
-ghost use Rattle.std.specs.Prelude.{◌≡◌, ◌++◌, IfOk, OnOk, map};
+ghost use Rattle.std.specs.Prelude.{◌≡◌, ◌++◌, IfOk, OnOk};
 ghost use Rattle.km_course.specs.FollowsOn.{FollowsOnFilesAndOut, Returns};
-ghost use Rattle.name_table.specs.FirstSeen.{first_seen};
-ghost use Rattle.index_read.specs.Values.{found_values};
 ghost use Rattle.command_builtin_alias.specs.BuiltinAlias.{builtin_alias_course, found_outcome};
 ghost use Rattle.km_names.specs.Lines.{lines_text};
 ghost use Rattle.command_builtin_alias.specs.BuiltinAlias.{shows_names};
 
-use index_read::{Index, Values, plain};
+use index_read::{Index, distinct_texts};
 use km_course::{End, Refusal, Stop, say_any};
 use km_names::{Blob, Name, Word, join, normal_alias};
 use km_outside::{Out, Reads};
@@ -56,8 +54,7 @@ fn found_text(alloc: Global, index: &Index, name: &Name) -> Result<Blob, Stop>
 {
     match normal_alias(alloc, name.as_bytes())? {
         Some(normal) => {
-            let values = plain::matching(alloc, index, normal.as_bytes())?;
-            let names = distinct(alloc, &values)?;
+            let names = distinct_texts(alloc, index, normal.as_bytes())?;
             if names.len() == 0 {
                 let name = Name::from_vec(normal.into_vec());
                 return Err(Stop::from(Refusal::NotFound { name }));
@@ -69,17 +66,6 @@ fn found_text(alloc: Global, index: &Index, name: &Name) -> Result<Blob, Stop>
             Err(Stop::from(Refusal::NotFound { name }))
         }
     }
-}
-
-/// Collects the texts of values without repeats.
-fn distinct<'a>(alloc: Global, values: &'a Values) -> Result<NameSet<'a>, AllocError>
-    ensures { IfOk result (λ set. set ≡ first_seen (map (λ v. v.1) (found_values values.now))) }
-{
-    let mut set = NameSet::new(alloc);
-    for value in values.as_slice() {
-        set.insert(value.text.as_bytes())?;
-    }
-    Ok(set)
 }
 
 /// Writes a line for each name.

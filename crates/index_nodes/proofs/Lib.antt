@@ -9,3 +9,4 @@ pub mod PutLemmas
 pub mod SoundNodes
 pub mod ReadLemmas
 pub mod ValueStartLemmas
+pub mod RunLemmas

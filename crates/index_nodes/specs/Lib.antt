@@ -5,3 +5,4 @@ pub mod Visited
 pub mod Pending
 pub mod TextEnds
 pub mod ValueStarts
+pub mod Runs

@@ -1,11 +1,14 @@
 ghost use Rattle.std.specs.Prelude.{◌≡◌, ◌+◌, ◌-◌, ◌≤◌, ◌<◌, ◌∷◌, [], ℕ, length, take, drop, Some};
+ghost use Rattle.std.specs.Prelude.{◌++◌, List};
 ghost use Rattle.std.specs.Prelude.{None, IfOk, OnOk, IfErr, IfNone, IfSome, slice_get};
+ghost use Rattle.index_format.specs.Map.{Value as IndexValue};
 ghost use Rattle.index_format.specs.Node.{root, prefix, child, values};
 ghost use Rattle.index_format.specs.Check.{index_fault};
 ghost use Rattle.index_format.specs.Nodes.{IsNode};
 ghost use Rattle.index_nodes.specs.Faults.{IsFirstFault};
 ghost use Rattle.index_nodes.specs.Fields.{link_of, IsNodeOf};
 ghost use Rattle.index_nodes.specs.Places.{IsPlaceOf, values_left, value_at};
+ghost use Rattle.index_nodes.specs.Runs.{IsRunOf, run_start, run_values, start_of};
 
 use crate::check::check;
 use crate::fault::IndexFault;
@@ -15,6 +18,7 @@ use crate::place::Place;
 use crate::read::{
     child_link, first_place, next_link, next_place, prefix_of, prefix_range, text_at,
 };
+use crate::run::{Run, joined, place_after, run_at};
 use crate::steps::Steps;
 use crate::text_ends::TextEnds;
 use km_names::{Blob, be_u32_at};
@@ -168,5 +172,45 @@ impl Nodes {
         ensures { result.now ≡ (value_at self.now at.now).1 }
     {
         text_at(self.bytes.as_bytes(), at)
+    }
+
+    /// Returns the run of the value at a place.
+    pub fn run(&self, at: &Place) -> Run
+        requires { IsPlaceOf self.now at.now }
+        ensures run { IsRunOf self.now result }
+        ensures start { run_start result ≡ start_of at.now }
+        ensures values { run_values self.now result ≡ value_at self.now at.now ∷ [] }
+    {
+        run_at(self.bytes.as_bytes(), at)
+    }
+
+    /// Returns the run of two, of which the second begins where the first one ends. Returns `None`
+    /// if it begins elsewhere, or if they have too many values.
+    pub fn join(&self, first: &Run, second: &Run) -> Option<Run>
+        requires first { IsRunOf self.now first.now }
+        requires second { IsRunOf self.now second.now }
+        ensures run { IfSome result (IsRunOf self.now) }
+        ensures start { IfSome result (λ run. run_start run ≡ run_start first.now) }
+        ensures values { IfSome result
+            (λ run. run_values self.now run
+            ≡ run_values self.now first.now ++ run_values self.now second.now) }
+    {
+        joined(self.bytes.as_bytes(), first, second)
+    }
+
+    /// Returns the place of the value after a run that begins at a place. Returns `None` if the run
+    /// has all values that are left of the place's node.
+    pub fn value_after(&self, at: &Place, run: &Run) -> Option<Place>
+        requires place { IsPlaceOf self.now at.now }
+        requires run { IsRunOf self.now run.now }
+        requires start { run_start run.now ≡ start_of at.now }
+        ensures none { IfNone result ((more : List IndexValue)
+            × (values_left self.now at.now ++ more ≡ run_values self.now run.now)) }
+        ensures some { IfSome result
+            (λ next. values_left self.now at.now
+            ≡ run_values self.now run.now ++ values_left self.now next) }
+        ensures place { IfSome result (IsPlaceOf self.now) }
+    {
+        place_after(self.bytes.as_bytes(), at, run)
     }
 }

@@ -15,7 +15,7 @@ use index_format::{HAS_CHILDREN, HAS_PREFIX, HAS_VALUES};
 use km_names::{be_u32_at, split_at_byte};
 
 /// The bytes of a number.
-const NUMBER_SIZE: usize = 4;
+pub(crate) const NUMBER_SIZE: usize = 4;
 
 /// Returns where the prefix of a node begins in the file and where it ends.
 pub(crate) fn prefix_range(bytes: &[u8], node: &Node) -> (usize, usize)
@@ -151,7 +151,7 @@ fn link_in(bytes: &[u8], node: &Node, first: u8, byte: u8) -> Option<u32>
 }
 
 /// Returns the place of a value from which this many values are left, or `None` if none is left.
-fn place_at(bytes: &[u8], start: usize, left: u32) -> Option<Place>
+pub(crate) fn place_at(bytes: &[u8], start: usize, left: u32) -> Option<Place>
     requires within { start ≤ length bytes.now }
     requires whole { whole_values left (drop start bytes.now) ≡ true }
     ensures none { IfNone result (values_from bytes.now start left ≡ []) }

@@ -12,3 +12,6 @@ pub mod SortLemmas
 pub mod SelectLemmas
 pub mod PriorityLemmas
 pub mod ContentsLemmas
+pub mod RepeatLemmas
+pub mod MetLemmas
+pub mod GoingLemmas

@@ -6,3 +6,4 @@ pub mod Contents
 pub mod Lookups
 pub mod Firsts
 pub mod FirstSteps
+pub mod Met

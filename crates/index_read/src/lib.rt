@@ -11,22 +11,27 @@
 //!
 //! A small file may have a map of any size. So the lookups in all keys count the bytes of the list
 //! that they answer, and past 268,435,456 they are out of memory. A listing writes a key only where
-//! it has a value. A [`FirstWalk`] answers one key at a time, and has no limit.
+//! it has a value. A [`FirstWalk`] answers one key at a time, and has no limit. Nor has
+//! [`distinct_texts`], which answers the texts of matching keys, each once: it reads each place of
+//! the file once, however many nodes share it.
 //!
 //! Many prefixes may share their last bytes. Once as many bytes were read as the file has, tables
 //! are made before a long prefix: where runs of `*` and of the items of a set end, and which ends
 //! of keys match which ends of the text. So matching takes time in proportion to the file for each
 //! 64 bytes of the text.
 //!
-//! Each node that is read is a step on the ledger that the caller gives; the lookups of [`plain`]
-//! and a [`FirstWalk`] count nothing. The crate builds on `index_nodes`, which reads the nodes, on
-//! `glob_match` for the patterns, and on `km_names` for bytes and lists. `IndexFault`, `Place` and
-//! `Steps` come from `index_nodes`.
+//! Each node that is read is a step on the ledger that the caller gives; the lookups of [`plain`],
+//! [`distinct_texts`] and a [`FirstWalk`] count nothing. The crate builds on `index_nodes`, which
+//! reads the nodes, on `glob_match` for the patterns, on `km_names` for bytes and lists, and on
+//! `name_table` for names without repeats. `IndexFault`, `Place` and `Steps` come from
+//! `index_nodes`.
 #![tactic(auto)]
 
+mod distinct;
 mod first;
 mod index;
 mod key_tables;
+mod met;
 pub mod plain;
 mod reach;
 mod room;
@@ -34,6 +39,7 @@ mod search;
 mod value;
 mod walk;
 
+pub use distinct::distinct_texts;
 pub use first::{FirstValue, FirstWalk};
 pub use index::Index;
 pub use index_nodes::{IndexFault, Place, Steps};

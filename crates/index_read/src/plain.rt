@@ -5,7 +5,7 @@ ghost use Rattle.index_format.specs.Map.{values_of};
 ghost use Rattle.index_format.specs.Node.{root};
 ghost use Rattle.index_format.specs.Walk.{at};
 ghost use Rattle.index_format.specs.Listing.{IsListing};
-ghost use Rattle.index_read.specs.Contents.{contents, wild_values};
+ghost use Rattle.index_read.specs.Contents.{contents};
 ghost use Rattle.index_read.specs.Lookups.{has_value, text_of_first};
 ghost use Rattle.index_read.specs.Values.{found_values, shown_pairs};
 
@@ -43,19 +43,6 @@ pub fn values(alloc: Global, index: &Index, key: &[u8]) -> Result<Values, AllocE
         (λ found. found_values found ≡ values_of (contents index.now.nodes) key.now) }
 {
     values_over::<Brand>(alloc, index, key, Blank::new(1))
-}
-
-/// Finds the values of every key that as a pattern matches the text: by rising priority, then by
-/// the bytes of the key, then by place.
-///
-/// # Errors
-///
-/// Out of memory, as by [`Index::wild`].
-pub fn matching(alloc: Global, index: &Index, text: &[u8]) -> Result<Values, AllocError>
-    ensures { IfOk result
-        (λ found. found_values found ≡ wild_values (contents index.now.nodes) text.now) }
-{
-    matching_over::<Brand>(alloc, index, text, Blank::new(1))
 }
 
 /// Lists all keys, each with its values, by the bytes of the keys and then by place.
@@ -108,22 +95,6 @@ fn values_over<L: Ledger>(
 {
     let mut steps = Steps::<L>::new(blank);
     index.find(alloc, key, &mut steps)
-}
-
-fn matching_over<L: Ledger>(
-    alloc: Global,
-    index: &Index,
-    text: &[u8],
-    blank: Blank,
-) -> Result<Values, AllocError>
-    requires ledger { blank.name ≡ L.name }
-    requires parts { blank.parts ≡ L.parts }
-    requires some { 0 < blank.parts }
-    ensures { IfOk result
-        (λ found. found_values found ≡ wild_values (contents index.now.nodes) text.now) }
-{
-    let mut steps = Steps::<L>::new(blank);
-    index.wild(alloc, text, &mut steps)
 }
 
 fn all_pairs_over<L: Ledger>(

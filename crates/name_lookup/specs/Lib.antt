@@ -5,3 +5,4 @@ pub mod Wildcards
 pub mod Aliases
 pub mod Lookups
 pub mod Tables
+pub mod Seen

@@ -2,7 +2,8 @@ ghost use Rattle.std.specs.Prelude.{◌≡◌, IfOk, if◌then◌else◌, []};
 ghost use Rattle.index_format.specs.Map.{values_of};
 ghost use Rattle.index_read.specs.Contents.{contents};
 ghost use Rattle.name_lookup.specs.Maps.{maps_of, texts};
-ghost use Rattle.name_lookup.specs.Found.{found, asks_symbol, first_list, kept, lists};
+ghost use Rattle.name_lookup.specs.Found.{found, asks_symbol, first_list, kept};
+ghost use Rattle.name_lookup.specs.Seen.{seen_lists};
 
 use crate::aliases::AliasTable;
 use crate::found::{Found, itself, names_left, nothing};
@@ -117,10 +118,10 @@ impl<'a> Lookup<'a> {
         }
     }
 
-    /// Finds the first list that isn't empty.
+    /// Finds the first list that isn't empty. The names of modules' own aliases are each in it once.
     fn first_found(&self, alloc: Global, name: &[u8]) -> Result<Found, AllocError>
         ensures { IfOk result
-            (λ f. f ≡ first_list 1 (lists self.now.rules (maps_of self.now.indexes) name.now)) }
+            (λ f. f ≡ first_list 1 (seen_lists self.now.rules (maps_of self.now.indexes) name.now)) }
     {
         let names = self.aliases.names(alloc, name)?;
         if !names.is_empty() {

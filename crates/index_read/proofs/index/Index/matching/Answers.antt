@@ -1,81 +1,18 @@
-use Rattle.std.proofs.Common.{refl, sym, ap, subst, ◌∙◌, [], ◌∷◌, ◌+◌, ◌≤◌, ◌<◌, ℕ, List, length}
-use Rattle.std.proofs.Common.{Option, Some, None, inl, arith, length-append}
+use Rattle.std.proofs.Common.{refl, sym, subst, ◌∙◌, [], ◌<◌, inl, arith}
 use Rattle.std.proofs.lemmas.Bool.{false≢true}
-use Rattle.index_format.specs.Map.{Value}
 use Rattle.index_nodes.specs.Fields.{link_of}
 use Rattle.glob_pattern.specs.Pattern.{Matches}
 use Rattle.index_read.specs.Keys.{Item, all_items}
-use Rattle.index_read.specs.Searches.{Finds, IsSearching, count_left}
-use Rattle.index_read.specs.declared.search.FoundNode.{FoundNode}
-use Rattle.index_read.specs.declared.search.Search.{Search}
 use Rattle.index_read.specs.Values.{found_values}
 use Rattle.index_read.proofs.CountLemmas.{count_all, root_counted}
 use Rattle.index_read.proofs.ContentsLemmas.{all_matching}
+use Rattle.index_read.proofs.GoingLemmas.{Goes, goes, to_do, owed_first, owed_next, fewer}
 use Rattle.index_read.proofs.ListingLemmas.{selection}
-use Rattle.index_read.proofs.MatchLemmas.{Onward, on_match, on_other, on_skipped, none_left}
-use Rattle.index_read.proofs.SearchLemmas.{count_is}
-use Rattle.index_read.proofs.index.Index.matching.Invariants.{Matching, IsGoing, owed, to_do}
+use Rattle.index_read.proofs.MatchLemmas.{Onward, on_match, on_other, none_left}
+use Rattle.index_read.proofs.index.Index.matching.Invariants.{Matching}
 use Rattle.index_read.proofs.index.Index.matching.Goals.{then-reached+in_ok-push_values}
 use Rattle.index_read.proofs.index.Index.matching.Goals.{else-reached}
 use Rattle.index_read.proofs.index.Index.matching.Goals as goal
-
--- What is still to come after a step, with the values so far.
-record Goes (b text : List ℕ) (s : Search) (next : Option FoundNode) (found : List Value) : Type 0
-  where
-    is : List Item
-    going : IsGoing b text s next is
-    onward : Onward b text is found
-
-goes : (b text : List ℕ) (is : List Item) (s : Search) (next : Option FoundNode)
-    (found : List Value)
-    → Finds b text is s next → Onward b text is found → Goes b text s next found
-goes b text is s None found h on = record { is = is; going = h; onward = on }
-goes b text is s (Some f) found h on = record {
-  is = (h.key, link_of f.node) ∷ h.left;
-  going
-      = record {
-        key = h.key;
-        left = h.left;
-        parts = refl;
-        node = h.node;
-        decides = h.decides;
-        searching = h.searching;
-      };
-  onward
-      = on_skipped b text h.skipped ((h.key, link_of f.node) ∷ h.left) found h.none
-      (subst (λ xs. Onward b text xs found) h.parts on);
-}
-
-owed_first : (b text : List ℕ) (is : List Item) (s : Search) (next : Option FoundNode)
-    → Finds b text is s next → 1 ≤ length is → owed b s next + 1 ≤ length is
-owed_first b text is s None h one = omega (arith, one)
-owed_first b text is s (Some f) h one =
-    let all = ap length h.parts in
-    omega (
-      arith,
-      all,
-      length-append h.skipped ((h.key, link_of f.node) ∷ h.left),
-      count_is b text s.levels.items s.saved.items h.left h.searching.waits,
-    )
-
-owed_next : (b : List ℕ) (s : Search) (next : Option FoundNode)
-    → owed b s next ≤ count_left b s.levels.items
-owed_next b s None = omega arith
-owed_next b s (Some f) = omega arith
-
-fewer : (b text : List ℕ) (is : List Item) (old new : Search) (next : Option FoundNode)
-    → IsSearching b text old is → Finds b text is new next
-    → to_do b new next < count_left b old.levels.items + 1
-fewer b text is old new None before h = omega arith
-fewer b text is old new (Some f) before h =
-    let all = ap length h.parts in
-    omega (
-      arith,
-      all,
-      length-append h.skipped ((h.key, link_of f.node) ∷ h.left),
-      count_is b text new.levels.items new.saved.items h.left h.searching.waits,
-      count_is b text old.levels.items old.saved.items is before.waits,
-    )
 
 pub returns-in_err-search-clause-cost : goal.returns-in_err-search-clause-cost
 returns-in_err-search-clause-cost g c =
