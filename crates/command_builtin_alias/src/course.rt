@@ -9,9 +9,9 @@ ghost use Rattle.command_builtin_alias.specs.BuiltinAlias.{lines_of_names, shows
 use index_read::{Index, Values, plain};
 use km_course::{End, Refusal, Stop, say_any};
 use km_names::{Blob, Name, Word, join, normal_alias};
-use km_outside::{Out, Reads};
 use kmod_words::{BuiltinAliasWords, read_builtin_alias};
 use name_table::NameSet;
+use outside_calls::{Out, Reads};
 use stages_files::{modules_folder, read_index};
 use std::alloc::{AllocError, Global};
 

@@ -8,8 +8,8 @@ ghost use Rattle.command_modprobe.specs.Resolved.{lines_of_names, resolves_alias
 use crate::basis::read_basis;
 use km_course::{Stop, say_any};
 use km_names::{Blob, Names};
-use km_outside::{Out, Reads};
 use kmod_words::ModprobeWords;
+use outside_calls::{Out, Reads};
 use plan_builder::Request;
 use stages_known::{Known, names_found};
 use std::alloc::{AllocError, Global};

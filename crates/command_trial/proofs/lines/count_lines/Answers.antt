@@ -1,5 +1,5 @@
 use Rattle.std.proofs.Common.{◌≡◌, length, arith}
-use Rattle.km_outside.specs.Contents.{rest_after}
+use Rattle.outside_calls.specs.Contents.{rest_after}
 use Rattle.command_trial.specs.Summary.{rest_if_any}
 use Rattle.command_trial.proofs.LineSteps.{count-none}
 use Rattle.command_trial.proofs.lines.count_lines.Goals as goal
