@@ -8,9 +8,9 @@ ghost use Rattle.command_builtin_alias.specs.BuiltinAlias.{shows_names};
 use index_read::{Index, distinct_texts};
 use km_course::{End, Refusal, Stop, say_any};
 use km_names::{Blob, Name, Word, join, normal_alias};
-use km_outside::{Out, Reads};
 use kmod_words::{BuiltinAliasWords, read_builtin_alias};
 use name_table::NameSet;
+use outside_calls::{Out, Reads};
 use stages_files::{modules_folder, read_index};
 use std::alloc::{AllocError, Global};
 

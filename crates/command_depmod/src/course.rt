@@ -16,8 +16,8 @@ use crate::tree::read_tree;
 use crate::warnings::warn_unmet;
 use km_course::{End, Stop};
 use km_names::{PathText, Word};
-use km_outside::{Files, Out};
 use kmod_words::{DepmodWords, read_depmod};
+use outside_calls::{Files, Out};
 use stages_files::{modules_folder, read_kernel};
 use std::alloc::{AllocError, Global};
 

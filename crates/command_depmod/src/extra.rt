@@ -16,7 +16,7 @@ use devname_nodes::{nodes, nodes_text};
 use index_write::WriteFault;
 use km_course::{Refusal, Stop, read_optional};
 use km_names::{Blob, FILE_LIMIT, Name, PathText, join};
-use km_outside::Reads;
+use outside_calls::Reads;
 use provider_rel::TreeFacts;
 use std::alloc::Global;
 

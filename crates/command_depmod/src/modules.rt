@@ -10,8 +10,8 @@ ghost use Rattle.command_depmod.specs.Modules.{reads_modules_facts};
 
 use km_course::{Refusal, Stop, read_needed_into};
 use km_names::{PathText, is_compressed, join};
-use km_outside::{FileBuffer, Reads};
 use module_facts::{Facts, ModuleFault};
+use outside_calls::{FileBuffer, Reads};
 use provider_rel::TreeFacts;
 use std::alloc::Global;
 

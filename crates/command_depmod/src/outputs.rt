@@ -14,7 +14,7 @@ use crate::relation::RelatedTree;
 use depmod_core::{OutputFault, OutputFile, OutputFiles, outputs};
 use km_course::{Refusal, Stop, put, read_optional, say_any};
 use km_names::{Blob, PathText, join};
-use km_outside::{Out, Reads, Writes};
+use outside_calls::{Out, Reads, Writes};
 use std::alloc::Global;
 
 /// All files, in the order in which they are replaced. The last two are those that `--extra` adds.

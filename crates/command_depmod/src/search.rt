@@ -8,8 +8,8 @@ ghost use Rattle.command_depmod.specs.Search.{reads_search};
 
 use km_course::Stop;
 use km_names::{ConfFiles, PathText};
-use km_outside::Reads;
 use mod_tree::{Search, parse_search};
+use outside_calls::Reads;
 use stages_files::{Tool, read_configuration, stop_of_fault};
 use std::alloc::Global;
 

@@ -5,8 +5,8 @@ ghost use Rattle.command_depmod.specs.Tree.{AreTreePaths, reads_tree, tree_outco
 
 use km_course::{Refusal, Stop, list_tree_needed, read_optional};
 use km_names::{Blob, PathText, Paths, join};
-use km_outside::Files;
 use mod_tree::{Search, Tree, TreeFault, choose};
+use outside_calls::Files;
 use std::alloc::Global;
 
 /// Reads the paths of the tree in the folder: it is listed, and its modules.order is read.

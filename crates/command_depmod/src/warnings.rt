@@ -6,7 +6,7 @@ ghost use Rattle.command_depmod.specs.Warnings.{warning_line, warns_any, warns_e
 
 use km_course::{Stop, warn};
 use km_names::{Blob, Name, PathText};
-use km_outside::Out;
+use outside_calls::Out;
 use provider_rel::Unbound;
 use std::alloc::{AllocError, Global};
 

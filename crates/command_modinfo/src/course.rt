@@ -6,9 +6,9 @@ ghost use Rattle.command_modinfo.specs.Modinfo.{shows_asked, shows_each, shows_w
 use crate::module_info::module_text;
 use km_course::{End, Stop, say_any};
 use km_names::{Name, PathText, Word};
-use km_outside::{Out, Reads};
 use kmod_words::{ModinfoWords, read_modinfo};
 use modinfo_tool::ShowOptions;
+use outside_calls::{Out, Reads};
 use stages_files::{KernelModules, modules_folder, path_of_name, read_modules, read_sections};
 use std::alloc::Global;
 

@@ -9,8 +9,8 @@ ghost use Rattle.command_modprobe.specs.Resolved.{names_asked};
 
 use km_course::Stop;
 use km_names::{Blob, Name, Names, PathText};
-use km_outside::Reads;
 use kmod_words::ModprobeWords;
+use outside_calls::Reads;
 use plan_builder::Request;
 use stages_files::modules_folder;
 use stages_known::{Known, read_known};

@@ -9,8 +9,8 @@ use crate::resolve_alias::resolve_alias;
 use command_remove::remove;
 use km_course::{End, Stop};
 use km_names::Word;
-use km_outside::{Out, Writes};
 use kmod_words::{Mode, ModprobeWords, read_modprobe};
+use outside_calls::{Out, Writes};
 use std::alloc::Global;
 
 /// Does what the words after `modprobe` ask for. modprobe(8).

@@ -6,9 +6,9 @@ ghost use Rattle.command_remove.specs.Listed.{well_formed_path};
 
 use km_course::Stop;
 use km_names::{Name, PathText};
-use km_outside::Reads;
 use model_loader::Machine;
 use name_lookup::Indexes;
+use outside_calls::Reads;
 use plan_builder::well_formed;
 use stages_files::path_listed;
 use stages_loads::load_listed_at;

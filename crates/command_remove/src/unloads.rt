@@ -10,9 +10,9 @@ ghost use Rattle.command_remove.specs.Taken.{CanBeTakenOut};
 use crate::lines::{left_lines, push_two};
 use km_course::{Stop, say, say_any};
 use km_names::Blob;
-use km_outside::Out;
 use model_loader::Machine;
 use model_unload::unload_below;
+use outside_calls::Out;
 use remove_plan::{RemovePlan, RemoveStep};
 use std::alloc::Global;
 

@@ -10,8 +10,8 @@ ghost use Rattle.command_static_nodes.specs.StaticNodes.{static_nodes_course};
 use devname_nodes::{NodeList, node_lines, read_nodes};
 use km_course::{End, Stop, read_needed, say_any};
 use km_names::{PathText, Word, join};
-use km_outside::{Out, Reads};
 use kmod_words::{StaticNodesWords, read_static_nodes};
+use outside_calls::{Out, Reads};
 use stages_files::{modules_folder, stop_of_fault};
 use std::alloc::Global;
 

@@ -1,7 +1,7 @@
 -- The stages of a trial, one after the other.
 use Rattle.std.proofs.Common.{◌≡◌, subst}
 use Rattle.std.specs.Prelude.{Result, ⊤}
-use Rattle.km_outside.specs.MemFilesSeen.{MemFilesSeen}
+use Rattle.outside_calls.specs.MemFilesSeen.{MemFilesSeen}
 use Rattle.km_course.specs.Course.{Stage, ◌>>=◌, says}
 use Rattle.km_course.specs.Follows.{Answers, Follows}
 use Rattle.km_course.specs.Inner.{Left, inner_outcome}

@@ -3,11 +3,12 @@ use Rattle.std.proofs.Common.{◌≡◌, ℕ, ◌≤◌, true, List, ◌++◌, l
 use Rattle.std.proofs.Common.{subst, arith, inl, inr}
 use Rattle.std.proofs.Math.Seq.{drop-append_seam}
 use Rattle.std.specs.Prelude.{Some, Result, Ok, Err, ⊤}
-use Rattle.km_outside.specs.Contents.{Contents}
-use Rattle.km_outside.specs.MemFilesSeen.{MemFilesSeen, mem_files_seen, no_kind_listed}
-use Rattle.km_outside.specs.MemOutSeen.{MemOutSeen, empty_with_room, mem_out_seen, mem_out-within}
-use Rattle.km_outside.specs.OutSeen.{OutSeen}
-use Rattle.km_outside.specs.declared.out.OutFailed.{OutFailed}
+use Rattle.outside_calls.specs.Contents.{Contents}
+use Rattle.outside_calls.specs.MemFilesSeen.{MemFilesSeen, mem_files_seen, no_kind_listed}
+use Rattle.outside_calls.specs.MemOutSeen.{MemOutSeen, empty_with_room, mem_out_seen}
+use Rattle.outside_calls.specs.MemOutSeen.{mem_out-within}
+use Rattle.outside_calls.specs.OutSeen.{OutSeen}
+use Rattle.outside_calls.specs.declared.out.OutFailed.{OutFailed}
 use Rattle.km_course.specs.Course.{Outcome, Stage}
 use Rattle.km_course.specs.Course.Outcome.{value, end}
 use Rattle.km_course.specs.World.{World, world, Shown, Tells, FitsRooms, done}

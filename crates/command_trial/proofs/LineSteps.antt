@@ -5,7 +5,7 @@ use Rattle.std.proofs.Common.{length-drop}
 use Rattle.std.specs.List.{after_first, flat_map, onto_first, position_or_len, slice_split}
 use Rattle.km_names.specs.Lines.{lines_of, without_empty_last}
 use Rattle.km_names.specs.Space.{is_space, nonempty, words}
-use Rattle.km_outside.specs.Contents.{Contents}
+use Rattle.outside_calls.specs.Contents.{Contents}
 use Rattle.command_trial.specs.Summary.{dependencies_in, images_of, paths_after_colon}
 
 -- an empty text has no line

@@ -11,7 +11,7 @@ use Rattle.sha2.specs.Sha256.{sha256}
 use Rattle.km_names.specs.Lines.{lines_of}
 use Rattle.km_names.specs.Path.{path_below}
 use Rattle.km_names.specs.Space.{first_word, words}
-use Rattle.km_outside.specs.Contents.{Contents, rest_after}
+use Rattle.outside_calls.specs.Contents.{Contents, rest_after}
 use Rattle.km_course.specs.Inner.{Left}
 
 -- the bytes of the file at the path, or none if there is no file

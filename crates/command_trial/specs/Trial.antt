@@ -1,7 +1,7 @@
 -- The course of `trial`: a tree is made, indexed and loaded, and a summary is printed. The command
 -- is this project's own.
 use Rattle.std.specs.Prelude.{ℕ, List, ⊤}
-use Rattle.km_outside.specs.Contents.{Contents}
+use Rattle.outside_calls.specs.Contents.{Contents}
 use Rattle.km_course.specs.Course.{Stage, ◌>>=◌, says, if_understood}
 use Rattle.km_course.specs.Inner.{Left, inner}
 use Rattle.kmod_words.specs.declared.trial.TrialWords.{TrialWords}

@@ -7,8 +7,8 @@ use crate::inside::{index_made, load_made};
 use crate::summary::{count_dependencies, summary};
 use km_course::{End, Stop, say};
 use km_names::Word;
-use km_outside::Out;
 use kmod_words::{TrialWords, read_trial};
+use outside_calls::Out;
 use std::alloc::Global;
 use tree_gen::generate;
 

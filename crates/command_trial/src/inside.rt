@@ -1,6 +1,6 @@
 // The commands inside a trial.
 ghost use Rattle.std.specs.Prelude.{◌≡◌, true, IfOk};
-ghost use Rattle.km_outside.specs.MemFilesSeen.{no_kind_listed};
+ghost use Rattle.outside_calls.specs.MemFilesSeen.{no_kind_listed};
 ghost use Rattle.km_course.specs.Follows.{Answers};
 ghost use Rattle.km_course.specs.Inner.{inner_outcome};
 ghost use Rattle.command_depmod.specs.Depmod.{depmod_course};
@@ -13,7 +13,7 @@ use crate::words::{depmod_words, modprobe_words};
 use command_depmod::depmod;
 use command_modprobe::modprobe;
 use km_course::{Stop, concluded};
-use km_outside::{MemFiles, MemOut};
+use outside_calls::{MemFiles, MemOut};
 use std::alloc::Global;
 
 /// The capacity in bytes of each output of a command inside.

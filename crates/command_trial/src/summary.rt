@@ -4,14 +4,14 @@ ghost use Rattle.std.specs.Fmt.{decimal};
 ghost use Rattle.std.specs.Option.{option_to_list};
 ghost use Rattle.sha2.specs.Hashers.{Holds256};
 ghost use Rattle.sha2.specs.Sha256.{sha256};
-ghost use Rattle.km_outside.specs.Contents.{rest_after};
+ghost use Rattle.outside_calls.specs.Contents.{rest_after};
 ghost use Rattle.command_trial.specs.Summary.{bytes_at, dependencies_left, image_path, images_of};
 ghost use Rattle.command_trial.specs.Summary.{loaded, stated, summary};
 
 use crate::lines::{count_lines, count_paths};
 use crate::words::IMAGES;
 use km_names::{Blob, PathText, first_line, join, split_word};
-use km_outside::MemFiles;
+use outside_calls::MemFiles;
 use sha2::{Digest, Sha256};
 use std::alloc::{AllocError, Global};
 

@@ -5,9 +5,9 @@ use Rattle.std.proofs.Common.{length-append, inl, inr}
 use Rattle.std.proofs.Math.Seq.{take-append_seam}
 use Rattle.std.specs.Prelude.{Option, Some, None, Result, Ok, Err, IfSome, IsSomeAnd, ⊤, ◌⊎◌}
 use Rattle.std.specs.Option.{option_map}
-use Rattle.km_outside.specs.Counts.{Rose}
-use Rattle.km_outside.specs.OutSeen.{OutSeen, WriteAnswers}
-use Rattle.km_outside.specs.declared.out.OutFailed.{OutFailed}
+use Rattle.outside_calls.specs.Counts.{Rose}
+use Rattle.outside_calls.specs.OutSeen.{OutSeen, WriteAnswers}
+use Rattle.outside_calls.specs.declared.out.OutFailed.{OutFailed}
 use Rattle.km_course.specs.Lines.{end_line, end_status, file_fault, output_fault, out_of_memory}
 use Rattle.km_course.specs.Course.{Act, Stage}
 use Rattle.km_course.specs.Course.Act.{read, list, say, warn, put}

@@ -3,8 +3,8 @@ use Rattle.std.proofs.Common.{◌≡◌, ℕ, ◌≤◌, ◌||◌, Bool, true, f
 use Rattle.std.proofs.Common.{refl, sym, ◌∙◌, ap, subst, arith, inl, inr, if◌then◌else◌}
 use Rattle.std.specs.Prelude.{Option, Some, IfSome, IsSomeAnd, nat_lt, ⊤, ◌⊎◌}
 use Rattle.std.proofs.lemmas.Bool.{le-ltb, ltb-false}
-use Rattle.km_outside.specs.Contents.{Contents}
-use Rattle.km_outside.specs.OutSeen.{OutSeen, Within}
+use Rattle.outside_calls.specs.Contents.{Contents}
+use Rattle.outside_calls.specs.OutSeen.{OutSeen, Within}
 use Rattle.km_course.specs.Lines.{end_line, end_status}
 use Rattle.km_course.specs.Course.{Act, Outcome, Run, Stage}
 use Rattle.km_course.specs.Course.Act.{warn}

@@ -9,16 +9,16 @@ use Rattle.std.specs.Prelude.{⊤}
 use Rattle.std.specs.Option.{option_map}
 use Rattle.std.specs.FinMap as map
 use Rattle.km_names.specs.Limit.{file_limit}
-use Rattle.km_outside.specs.CallCounts.{CallCounts, NoneFell, refused}
-use Rattle.km_outside.specs.Contents.{Contents, listed, rests_below, is_path, is_conf_name}
-use Rattle.km_outside.specs.Counts.{count_end, one_more}
-use Rattle.km_outside.specs.FilesSeen.{FilesSeen, one_called, ReadAnswers, IsReadAt, ListAnswers}
-use Rattle.km_outside.specs.FilesSeen.{IsListOf, ReplaceAnswers, list_limit}
-use Rattle.km_outside.specs.OutSeen.{OutSeen, WriteAnswers, LacksRoom}
-use Rattle.km_outside.specs.declared.files.FileAnswer.{FileAnswer}
-use Rattle.km_outside.specs.declared.files.FileAnswer.TheVariants as answers
-use Rattle.km_outside.specs.declared.files.ReplaceAnswer.TheVariants as replaces
-use Rattle.km_outside.specs.declared.out.OutFailed.{OutFailed}
+use Rattle.outside_calls.specs.CallCounts.{CallCounts, NoneFell, refused}
+use Rattle.outside_calls.specs.Contents.{Contents, listed, rests_below, is_path, is_conf_name}
+use Rattle.outside_calls.specs.Counts.{count_end, one_more}
+use Rattle.outside_calls.specs.FilesSeen.{FilesSeen, one_called, ReadAnswers, IsReadAt, ListAnswers}
+use Rattle.outside_calls.specs.FilesSeen.{IsListOf, ReplaceAnswers, list_limit}
+use Rattle.outside_calls.specs.OutSeen.{OutSeen, WriteAnswers, LacksRoom}
+use Rattle.outside_calls.specs.declared.files.FileAnswer.{FileAnswer}
+use Rattle.outside_calls.specs.declared.files.FileAnswer.TheVariants as answers
+use Rattle.outside_calls.specs.declared.files.ReplaceAnswer.TheVariants as replaces
+use Rattle.outside_calls.specs.declared.out.OutFailed.{OutFailed}
 use Rattle.km_course.specs.Course.{Act, Outcome, act_with, reads_or, read_outcome, lists_or}
 use Rattle.km_course.specs.Course.{list_outcome, says, warns, says_any, puts}
 use Rattle.km_course.specs.Course.Act.{read, list, say, warn, put}

@@ -2,10 +2,10 @@
 use Rattle.std.proofs.Common.{◌≡◌, ℕ, ◌≤◌, Bool, true, false, List, [], ◌∷◌, ◌++◌, refl, sym, ◌∙◌}
 use Rattle.std.proofs.Common.{ap, subst, arith, append_assoc, append-nil, inl, inr}
 use Rattle.std.specs.Prelude.{Option, Some, None, Result, Ok, Err}
-use Rattle.km_outside.specs.Contents.{Contents}
-use Rattle.km_outside.specs.Counts.{Rose}
-use Rattle.km_outside.specs.FilesSeen.{FilesSeen}
-use Rattle.km_outside.specs.OutSeen.{OutSeen}
+use Rattle.outside_calls.specs.Contents.{Contents}
+use Rattle.outside_calls.specs.Counts.{Rose}
+use Rattle.outside_calls.specs.FilesSeen.{FilesSeen}
+use Rattle.outside_calls.specs.OutSeen.{OutSeen}
 use Rattle.km_course.specs.Course.{Act, Outcome, Run, Stage, after, continued, possible_after}
 use Rattle.km_course.specs.Course.{◌>>=◌, given, each_from, when◌then◌else◌}
 use Rattle.km_course.specs.Course.Act.{read, list, say, warn, put}

@@ -7,8 +7,8 @@ use Rattle.std.specs.Prelude.{codes}
 use Rattle.km_course.specs.Lines.{too_large}
 use Rattle.std.specs.Prelude.{Option, Some, None, Result, Ok, Err, IfSome, ⊤}
 use Rattle.std.specs.Option.{option_map}
-use Rattle.km_outside.specs.OutSeen.{OutSeen, WriteAnswers, appended, failed}
-use Rattle.km_outside.specs.declared.out.OutFailed.{OutFailed}
+use Rattle.outside_calls.specs.OutSeen.{OutSeen, WriteAnswers, appended, failed}
+use Rattle.outside_calls.specs.declared.out.OutFailed.{OutFailed}
 
 told-twice : (told : Option (List ℕ)) (a b : List ℕ)
     → option_map (λ bytes. bytes ++ b) (option_map (λ bytes. bytes ++ a) told)

@@ -2,9 +2,9 @@
 use Rattle.std.specs.Prelude.{◌≡◌, ◌⊎◌, ℕ, ◌≤◌, ◌==◌, true, false, if◌then◌else◌, List, [], ◌∷◌}
 use Rattle.std.specs.Prelude.{◌++◌, length, Option, Some, None, IfSome, IsSomeAnd, Result, Ok, Err}
 use Rattle.std.specs.Prelude.{⊤, unwrap_or}
-use Rattle.km_outside.specs.Counts.{Rose}
-use Rattle.km_outside.specs.OutSeen.{OutSeen, WriteAnswers}
-use Rattle.km_outside.specs.declared.out.OutFailed.{OutFailed}
+use Rattle.outside_calls.specs.Counts.{Rose}
+use Rattle.outside_calls.specs.OutSeen.{OutSeen, WriteAnswers}
+use Rattle.outside_calls.specs.declared.out.OutFailed.{OutFailed}
 use Rattle.km_course.specs.Lines.{end_line, end_status, refusal_text, file_fault, output_fault}
 use Rattle.km_course.specs.Lines.{out_of_memory}
 use Rattle.km_course.specs.Course.{Act, Outcome, Run, Stage}

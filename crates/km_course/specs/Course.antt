@@ -3,9 +3,9 @@ use Rattle.std.specs.Prelude.{◌≡◌, ◌⊎◌, ℕ, ◌≤◌, nat_lt, Bool
 use Rattle.std.specs.Prelude.{[], ◌∷◌, ◌++◌, length, Option, Some, None, ⊤}
 use Rattle.std.specs.List.Sorted.{IsStrictlySortedBy}
 use Rattle.std.specs.FinMap as map
-use Rattle.km_outside.specs.Contents.{Contents, by_bytes, listed, is_path, is_conf_name}
+use Rattle.outside_calls.specs.Contents.{Contents, by_bytes, listed, is_path, is_conf_name}
 use Rattle.km_names.specs.Limit.{file_limit}
-use Rattle.km_outside.specs.FilesSeen.{list_limit}
+use Rattle.outside_calls.specs.FilesSeen.{list_limit}
 use Rattle.km_course.specs.declared.end.End.{End}
 use Rattle.km_course.specs.declared.end.End.TheVariants.{NoFile, NotUnderstood, Refused, TooLarge}
 use Rattle.km_course.specs.declared.refusal.Refusal.{Refusal}

@@ -1,9 +1,9 @@
 -- What it means that a call followed a stage: the contract of every function above the traits.
 use Rattle.std.specs.Prelude.{◌≡◌, ℕ, ◌+◌, ◌<◌, false, List, [], ◌∷◌, ◌++◌, length, Option, Some}
 use Rattle.std.specs.Prelude.{None, Result, Ok, Err, IfSome, ⊤}
-use Rattle.km_outside.specs.Counts.{Rose}
-use Rattle.km_outside.specs.declared.files.FileAnswer.{FileAnswer}
-use Rattle.km_outside.specs.declared.files.FileAnswer.TheVariants as answers
+use Rattle.outside_calls.specs.Counts.{Rose}
+use Rattle.outside_calls.specs.declared.files.FileAnswer.{FileAnswer}
+use Rattle.outside_calls.specs.declared.files.FileAnswer.TheVariants as answers
 use Rattle.km_course.specs.Course.{Act, Outcome, Run, Stage}
 use Rattle.km_course.specs.Course.Act.{read, list, say, warn, put}
 use Rattle.km_course.specs.Course.Outcome.{value, end}

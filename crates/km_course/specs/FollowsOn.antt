@@ -2,8 +2,8 @@
 -- three objects, whatever the others are, and left these as they were. `seen` reads what a contract
 -- sees of an object, which was old and is new.
 use Rattle.std.specs.Prelude.{Result}
-use Rattle.km_outside.specs.FilesSeen.{FilesSeen}
-use Rattle.km_outside.specs.OutSeen.{OutSeen}
+use Rattle.outside_calls.specs.FilesSeen.{FilesSeen}
+use Rattle.outside_calls.specs.OutSeen.{OutSeen}
 use Rattle.km_course.specs.Course.{Outcome, Stage}
 use Rattle.km_course.specs.World.{world}
 use Rattle.km_course.specs.Follows.{Answers, Follows}

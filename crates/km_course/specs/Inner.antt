@@ -1,7 +1,7 @@
 -- A course inside another: over files that were made for it, with outputs of its own whose
 -- capacities are known.
 use Rattle.std.specs.Prelude.{ℕ, nat_lt, Bool, ◌||◌, if◌then◌else◌, List, [], length, Some, ⊤}
-use Rattle.km_outside.specs.Contents.{Contents}
+use Rattle.outside_calls.specs.Contents.{Contents}
 use Rattle.km_course.specs.Lines.{end_line}
 use Rattle.km_course.specs.Course.{Outcome, Run, Stage, given}
 use Rattle.km_course.specs.Course.Outcome.{value, end}

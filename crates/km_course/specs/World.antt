@@ -2,11 +2,11 @@
 use Rattle.std.specs.Prelude.{◌≡◌, ℕ, zero, suc, ◌≤◌, List, [], ◌∷◌, ◌++◌, take, Option, Some, None}
 use Rattle.std.specs.Prelude.{is_some, IsSomeAnd}
 use Rattle.std.specs.Option.{option_map}
-use Rattle.km_outside.specs.CallCounts.{NoneFell}
-use Rattle.km_outside.specs.Contents.{Contents}
-use Rattle.km_outside.specs.Counts.{one_more}
-use Rattle.km_outside.specs.FilesSeen.{FilesSeen}
-use Rattle.km_outside.specs.OutSeen.{OutSeen, Within}
+use Rattle.outside_calls.specs.CallCounts.{NoneFell}
+use Rattle.outside_calls.specs.Contents.{Contents}
+use Rattle.outside_calls.specs.Counts.{one_more}
+use Rattle.outside_calls.specs.FilesSeen.{FilesSeen}
+use Rattle.outside_calls.specs.OutSeen.{OutSeen, Within}
 use Rattle.km_course.specs.Course.{Act, file_done}
 use Rattle.km_course.specs.Course.Act.{read, list, say, warn, put}
 

@@ -1,5 +1,5 @@
 ghost use Rattle.std.specs.Prelude.{◌≡◌, ◌++◌, Err, IfOk, OnErr};
-ghost use Rattle.km_outside.specs.OutSeen.{WriteAnswers};
+ghost use Rattle.outside_calls.specs.OutSeen.{WriteAnswers};
 ghost use Rattle.km_course.specs.Carries.{Closes, Concludes, IsRefused, SaysOf, WritesLine};
 ghost use Rattle.km_course.specs.Carries.{stop_line, stop_status, unwritten_status};
 ghost use Rattle.km_course.specs.Conclusion.{conclusion_status};
@@ -8,7 +8,7 @@ ghost use Rattle.km_course.specs.declared.stop.Stop.TheVariants.{Ended, Memory};
 
 use crate::{End, Stop};
 use km_names::Blob;
-use km_outside::{Out, OutFailed};
+use outside_calls::{Out, OutFailed};
 use std::alloc::{AllocError, Global};
 
 /// The line of a command that ran out of memory.

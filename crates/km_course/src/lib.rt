@@ -2,7 +2,7 @@
 //! what it means that a call did it.
 //!
 //! A stage is a part of a course. Each function above the traits follows a stage, and the lemmas of
-//! this crate compose such functions. The crate uses `km_outside`.
+//! this crate compose such functions. The crate uses `outside_calls`.
 #![tactic(auto)]
 
 mod conclusion;

@@ -8,7 +8,7 @@ ghost use Rattle.km_course.specs.FollowsOn.{FollowsOnFiles, FollowsOnFilesAs};
 
 use crate::{End, Stop};
 use km_names::{Blob, Names, PathText, Paths};
-use km_outside::{FileAnswer, FileBuffer, Files, Reads};
+use outside_calls::{FileAnswer, FileBuffer, Files, Reads};
 use std::alloc::Global;
 
 /// Reads the file at the path, which is needed. An absent file and one past the limit end the

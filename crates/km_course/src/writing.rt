@@ -5,7 +5,7 @@ ghost use Rattle.km_course.specs.FollowsOn.{FollowsOnErr, FollowsOnFiles, Follow
 
 use crate::Stop;
 use km_names::PathText;
-use km_outside::{Out, ReplaceAnswer, Writes};
+use outside_calls::{Out, ReplaceAnswer, Writes};
 use std::alloc::Global;
 
 /// Writes the bytes to the output, in one piece. A failed write stops the command with status 3.

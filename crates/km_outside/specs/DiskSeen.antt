@@ -3,10 +3,11 @@ use Rattle.std.specs.Prelude.{ℕ, ◌<◌, false, Some, None, ⊤}
 use Rattle.std.specs.declared.io.ErrorKind.{ErrorKind}
 use Rattle.std.specs.declared.io.ErrorKind.TheVariants.{NotFound, NotADirectory, IsADirectory}
 use Rattle.std.specs.declared.io.ErrorKind.TheVariants.{OutOfMemory}
-use Rattle.km_outside.specs.Counted.{Counted}
-use Rattle.km_outside.specs.FilesSeen.{FilesSeen}
-use Rattle.km_outside.specs.declared.files.FileAnswer.{FileAnswer}
-use Rattle.km_outside.specs.declared.files.FileAnswer.TheVariants.{Absent, Failed, TooLarge, Memory}
+use Rattle.outside_calls.specs.Counted.{Counted}
+use Rattle.outside_calls.specs.FilesSeen.{FilesSeen}
+use Rattle.outside_calls.specs.declared.files.FileAnswer.{FileAnswer}
+use Rattle.outside_calls.specs.declared.files.FileAnswer.TheVariants.{Absent, Failed, TooLarge}
+use Rattle.outside_calls.specs.declared.files.FileAnswer.TheVariants.{Memory}
 
 -- What is seen of them as files: their contents aren't known, and calls may fail.
 abbrev pub disk_seen : Counted → FilesSeen

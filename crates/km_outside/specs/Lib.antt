@@ -1,15 +1,3 @@
-pub mod CallsSeen
-pub mod CallCounts
-pub mod Codes
-pub mod Contents
-pub mod Counted
-pub mod Counts
 pub mod DiskSeen
-pub mod Entries
-pub mod FilesSeen
-pub mod Listing
-pub mod MemFilesSeen
-pub mod MemOutSeen
-pub mod OutSeen
 pub mod StreamSeen
 pub mod WalkSeen

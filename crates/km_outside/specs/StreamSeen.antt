@@ -1,9 +1,9 @@
 -- What a contract sees of an output over a writer of the library.
 use Rattle.std.specs.Prelude.{◌≡◌, ℕ, ◌≤◌, List, length, take, Option, None, Result, Ok, Err, ⊤}
 use Rattle.std.specs.Io.KnownBytes.{Appends}
-use Rattle.km_outside.specs.Counts.{one_more}
-use Rattle.km_outside.specs.OutSeen.{OutSeen}
-use Rattle.km_outside.specs.declared.out.OutFailed.{OutFailed}
+use Rattle.outside_calls.specs.Counts.{one_more}
+use Rattle.outside_calls.specs.OutSeen.{OutSeen}
+use Rattle.outside_calls.specs.declared.out.OutFailed.{OutFailed}
 
 -- How often a write failed, and the bytes that the writer holds if they are known, as for one over
 -- memory.

@@ -1,8 +1,8 @@
 -- A walk through the folders of the machine, and why it ends.
 -- It belongs to the code: no public meaning rests on it.
 use Rattle.std.specs.Prelude.{◌≡◌, ℕ, ◌+◌, ◌-◌, ◌*◌, ◌≤◌, true, All, vec_len}
-use Rattle.km_outside.specs.FilesSeen.{list_limit}
-use Rattle.km_outside.specs.Listing.{test_of}
+use Rattle.outside_calls.specs.FilesSeen.{list_limit}
+use Rattle.outside_calls.specs.Listing.{test_of}
 use Rattle.km_outside.specs.declared.disk_listing.Walk.{Walk}
 
 -- No more was found than entries were met, which are no more than the limit, and all that was found

@@ -1,18 +1,16 @@
 ghost use Rattle.std.specs.Prelude.{◌≡◌};
-ghost use Rattle.km_outside.specs.CallCounts.{answered, replied};
-ghost use Rattle.km_outside.specs.Contents.{is_conf_name, is_path};
-ghost use Rattle.km_outside.specs.Counted.{none_counted, one_counted};
+ghost use Rattle.outside_calls.specs.CallCounts.{answered, replied};
+ghost use Rattle.outside_calls.specs.Contents.{is_conf_name, is_path};
+ghost use Rattle.outside_calls.specs.Counted.{none_counted, one_counted};
 ghost use Rattle.km_outside.specs.DiskSeen.{disk_seen};
-ghost use Rattle.km_outside.specs.FilesSeen.{ListAnswers, ReadAnswers, ReplaceAnswers, buffered};
-ghost use Rattle.km_outside.specs.Listing.{test_of};
+ghost use Rattle.outside_calls.specs.FilesSeen.{ListAnswers, ReadAnswers, ReplaceAnswers, buffered};
+ghost use Rattle.outside_calls.specs.Listing.{test_of};
 
-use crate::counts::Counts;
 use crate::disk_listing::list_folder;
 use crate::disk_read::read_file;
 use crate::disk_replace::replace_file;
-use crate::listing::Listing;
-use crate::{FileAnswer, FileBuffer, Files, Reads, ReplaceAnswer, Writes};
 use km_names::{Blob, Bytes, List, Names, PathText, Paths};
+use outside_calls::{Counts, FileAnswer, FileBuffer, Files, Listing, Reads, ReplaceAnswer, Writes};
 use std::alloc::Global;
 use std::marker::Model;
 use std::rt;
@@ -26,11 +24,11 @@ pub struct DiskFiles<R> {
 }
 
 impl<R> Model for DiskFiles<R> {
-    ghost use Rattle.km_outside.specs.Counted.{Counted};
+    ghost use Rattle.outside_calls.specs.Counted.{Counted};
 
     ghost Value = { Counted };
 
-    ghost use Rattle.km_outside.specs.Codes.{counted_code};
+    ghost use Rattle.outside_calls.specs.Codes.{counted_code};
 
     ghost coded = { counted_code };
 

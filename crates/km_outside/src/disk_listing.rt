@@ -1,19 +1,17 @@
 // A folder of the machine, listed.
 
-ghost use Rattle.std.specs.Prelude.{◌≡◌, ◌+◌, ◌<◌, ◌≤◌, All, Bool, IfErr, IfOk, List, OnOk, length};
-ghost use Rattle.std.specs.Prelude.{map, string_bytes, true, vec_len, ℕ};
+ghost use Rattle.std.specs.Prelude.{◌≡◌, ◌+◌, ◌<◌, ◌≤◌, All, IfErr, IfOk, OnOk, length};
+ghost use Rattle.std.specs.Prelude.{string_bytes, true, vec_len};
 ghost use Rattle.std.specs.List.Sorted.{IsStrictlySortedBy};
-ghost use Rattle.km_outside.specs.Contents.{by_bytes};
+ghost use Rattle.outside_calls.specs.Contents.{by_bytes};
 ghost use Rattle.km_outside.specs.DiskSeen.{IsPast};
 ghost use Rattle.km_outside.specs.WalkSeen.{IsSoundWalk, walk_left};
-ghost use Rattle.km_outside.specs.declared.files.FileAnswer.TheVariants.{Memory};
-ghost use Rattle.km_outside.specs.FilesSeen.{list_limit};
-ghost use Rattle.km_outside.specs.Listing.{test_of};
+ghost use Rattle.outside_calls.specs.FilesSeen.{list_limit};
+ghost use Rattle.outside_calls.specs.Listing.{test_of};
 
 use crate::disk_read::answer_to;
-use crate::listing::Listing;
-use crate::{FileAnswer, LIST_LIMIT};
 use km_names::{Bytes, List, PathText, join};
+use outside_calls::{FileAnswer, LIST_LIMIT, Listing, rising_list};
 use std::alloc::{AllocError, Global};
 use std::fs::{DirEntry, ReadDir};
 use std::io::ErrorKind;
@@ -37,7 +35,7 @@ pub(crate) fn list_folder<R: rt::Files + AllocGlobal + Clone + Drop, K>(
         return Err(FileAnswer::Failed);
     };
     let found = find(rt, alloc, listing, folder)?;
-    rising(alloc, found)
+    rising_list(alloc, found)
 }
 
 /// Returns what is found below the folder, in no order.
@@ -64,19 +62,6 @@ fn find<R: rt::Files + AllocGlobal + Clone + Drop>(
     }
     walk.read_pending(rt, alloc, folder)?;
     Ok(walk.found)
-}
-
-/// Returns the paths in rising order, each once.
-fn rising<K>(alloc: Global, mut found: Vec<Vec<u8>>) -> Result<List<Bytes<K>>, FileAnswer>
-    ensures rising { IfOk result (λ names. IsStrictlySortedBy by_bytes names) }
-    ensures kept { (p : List ℕ → Bool) → All (λ path. p path.items ≡ true) found.items
-        → IfOk result (λ names. All (λ name. p name ≡ true) names) }
-    ensures limit { IfOk result (λ names. length names ≤ vec_len found) }
-    ensures memory { IfErr result (λ answer. answer ≡ Memory) }
-{
-    found.sort()?;
-    found.dedup();
-    Ok(as_list(alloc, found)?)
 }
 
 /// A walk through a folder and, if all files are listed, the folders below it.
@@ -196,17 +181,6 @@ impl Walk {
     }
 }
 
-/// Converts the paths to a list.
-fn as_list<K>(alloc: Global, paths: Vec<Vec<u8>>) -> Result<List<Bytes<K>>, AllocError>
-    ensures { IfOk result (λ list. list ≡ map (λ path. path.items) paths.items) }
-{
-    let mut list = List::new(alloc);
-    for path in paths {
-        list.push(Bytes::from_vec(path))?;
-    }
-    Ok(list)
-}
-
 /// Opens a folder below the one that is listed.
 fn open_below<R: rt::Files + AllocGlobal + Clone + Drop>(
     rt: &R,
@@ -250,19 +224,27 @@ fn kind_of_entry<R: rt::Files>(
 ) -> Result<EntryKind, FileAnswer>
     ensures { IfErr result (IsPast list_limit) }
 {
+    let answer = match listing {
+        Listing::Conf => fs::metadata(rt, entry.path()),
+        Listing::Tree => entry.metadata(),
+    };
+    match answer {
+        Ok(metadata) => Ok(kind_of_type(listing, metadata.is_dir(), metadata.is_file())),
+        Err(error) if listing == Listing::Conf && error.kind() == ErrorKind::NotFound => {
+            Ok(EntryKind::Other)
+        }
+        Err(error) => Err(answer_below(error)),
+    }
+}
+
+/// Returns the kind of an entry by its type: whether it is a folder or a regular file.
+fn kind_of_type(listing: Listing, is_dir: bool, is_file: bool) -> EntryKind {
     match listing {
-        Listing::Conf => match fs::metadata(rt, entry.path()) {
-            Ok(metadata) if metadata.is_dir() => Ok(EntryKind::Other),
-            Ok(_) => Ok(EntryKind::File),
-            Err(error) if error.kind() == ErrorKind::NotFound => Ok(EntryKind::Other),
-            Err(error) => Err(answer_below(error)),
-        },
-        Listing::Tree => match entry.metadata() {
-            Ok(metadata) if metadata.is_dir() => Ok(EntryKind::Folder),
-            Ok(metadata) if metadata.is_file() => Ok(EntryKind::File),
-            Ok(_) => Ok(EntryKind::Other),
-            Err(error) => Err(answer_below(error)),
-        },
+        Listing::Conf if is_dir => EntryKind::Other,
+        Listing::Conf => EntryKind::File,
+        Listing::Tree if is_dir => EntryKind::Folder,
+        Listing::Tree if is_file => EntryKind::File,
+        Listing::Tree => EntryKind::Other,
     }
 }
 

@@ -4,8 +4,8 @@ ghost use Rattle.std.specs.Prelude.{◌≡◌, ◌<◌, ◌≤◌, length, OnOk,
 ghost use Rattle.km_outside.specs.DiskSeen.{answer_of, IsPast};
 ghost use Rattle.km_names.specs.Limit.{file_limit};
 
-use crate::{FileAnswer, FileBuffer};
 use km_names::{FILE_LIMIT, PathText};
+use outside_calls::{FileAnswer, FileBuffer};
 use std::fs::{File, Metadata, OpenFile};
 use std::io::ErrorKind;
 use std::rt;

@@ -1,8 +1,8 @@
 // A file of the machine, replaced.
 
-use crate::ReplaceAnswer;
-use crate::transfer::write_whole;
+use crate::writing::write_whole;
 use km_names::PathText;
+use outside_calls::ReplaceAnswer;
 use std::alloc::Global;
 use std::fs::{OpenFile, OpenOptions};
 use std::io::ErrorKind;

@@ -1,10 +1,10 @@
 // Outputs over the library's writers: the standard output and the standard error output.
 ghost use Rattle.std.specs.Prelude.{◌≡◌};
-ghost use Rattle.km_outside.specs.OutSeen.{WriteAnswers};
+ghost use Rattle.outside_calls.specs.OutSeen.{WriteAnswers};
 ghost use Rattle.km_outside.specs.StreamSeen.{stream_seen, StreamWrites};
 
-use crate::transfer::write_whole;
-use crate::{Out, OutFailed};
+use crate::writing::write_whole;
+use outside_calls::{Out, OutFailed};
 use std::io::Write;
 use std::marker::Model;
 use std::rt::{Stderr, Stdout};

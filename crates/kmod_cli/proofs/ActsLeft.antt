@@ -4,7 +4,7 @@ use Rattle.std.proofs.Common.{ap, subst, inl, inr, arith, append-nil, ◌∙◌}
 use Rattle.std.specs.Prelude.{◌⊎◌, Option, Some, ⊤}
 use Rattle.std.specs.List.{list_all}
 use Rattle.std.proofs.lemmas.List.{take_all, take_min}
-use Rattle.km_outside.specs.Contents.{Contents}
+use Rattle.outside_calls.specs.Contents.{Contents}
 use Rattle.km_course.specs.Carries.{CutShort, closing_acts, outcome_line}
 use Rattle.km_course.specs.Course.{Act, Outcome}
 use Rattle.km_course.specs.Course.Act.{read, list, say, warn, put}

@@ -1,7 +1,7 @@
 -- The two halves of the headline meet.
 use Rattle.std.proofs.Common.{◌≡◌, ◌∙◌, ℕ, List, [], false, refl, sym, ap, subst, inl, inr, arith}
 use Rattle.std.specs.Prelude.{Option, Some, ◌⊎◌, if◌then◌else◌}
-use Rattle.km_outside.specs.Contents.{Contents}
+use Rattle.outside_calls.specs.Contents.{Contents}
 use Rattle.km_course.specs.Course.{Outcome}
 use Rattle.km_course.specs.Course.Outcome.{value, end}
 use Rattle.km_course.specs.Lines.{end_status}

@@ -3,7 +3,7 @@ use Rattle.std.proofs.Common.{◌≡◌, ◌∙◌, ℕ, ◌≤◌, Bool, true, 
 use Rattle.std.proofs.Common.{arith}
 use Rattle.std.specs.Prelude.{Some, Ok, IfErr, ⊤}
 use Rattle.std.specs.List.{list_all}
-use Rattle.km_outside.specs.Contents.{Contents}
+use Rattle.outside_calls.specs.Contents.{Contents}
 use Rattle.km_course.specs.Carries.{Carries, outcome_line, outcome_status, whole_acts}
 use Rattle.km_course.specs.Course.{Act, Outcome, Run, if_understood}
 use Rattle.km_course.specs.Lines.{end_line}

@@ -8,7 +8,7 @@ use Rattle.std.proofs.lemmas.Bool.{le-ltb}
 use Rattle.km_names.specs.AliasForm.{normal_alias}
 use Rattle.km_names.specs.Limit.{file_limit}
 use Rattle.km_names.specs.Path.{path_below}
-use Rattle.km_outside.specs.Contents.{Contents}
+use Rattle.outside_calls.specs.Contents.{Contents}
 use Rattle.km_course.specs.Carries.{Carries, outcome_status}
 use Rattle.km_course.specs.Course.{Act, Outcome, Run, Stage, ◌>>=◌, given, read_outcome, reads}
 use Rattle.km_course.specs.Course.{says_any, if_understood}

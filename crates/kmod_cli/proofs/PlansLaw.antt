@@ -4,7 +4,7 @@ use Rattle.std.proofs.Common.{◌≡◌, ◌∙◌, ℕ, true, List, [], ◌++�
 use Rattle.std.proofs.Common.{arith, append-nil}
 use Rattle.std.specs.Prelude.{Option, Some, ⊤}
 use Rattle.std.specs.List.{list_all}
-use Rattle.km_outside.specs.Contents.{Contents}
+use Rattle.outside_calls.specs.Contents.{Contents}
 use Rattle.km_course.specs.Carries.{Carries, outcome_line, outcome_status, whole_acts}
 use Rattle.km_course.specs.Course.{Act, Outcome, Run, Stage, ◌>>=◌, given, if_understood}
 use Rattle.km_course.specs.Course.Outcome.{value, end}

@@ -5,7 +5,7 @@ use Rattle.std.proofs.Common.{length-append}
 use Rattle.std.specs.Prelude.{Some, ⊤}
 use Rattle.std.proofs.lemmas.List.{take-append-le, take_min}
 use Rattle.std.proofs.Math.Seq.{take-append-add}
-use Rattle.km_outside.specs.Contents.{Contents}
+use Rattle.outside_calls.specs.Contents.{Contents}
 use Rattle.km_course.specs.Carries.{closing_acts, outcome_line, whole_acts}
 use Rattle.km_course.specs.Course.{Act, Outcome, Run}
 use Rattle.km_course.specs.Course.Act.{read, list, say, warn, put}

@@ -2,7 +2,7 @@
 use Rattle.std.proofs.Common.{◌≡◌, ◌∙◌, ℕ, ◌≤◌, Bool, List, [], ◌∷◌, ◌++◌, refl, sym, ap, subst}
 use Rattle.std.proofs.Common.{arith, append-nil}
 use Rattle.std.specs.Prelude.{codes, Some, None, Ok, ⊤}
-use Rattle.km_outside.specs.Contents.{Contents}
+use Rattle.outside_calls.specs.Contents.{Contents}
 use Rattle.km_course.specs.Carries.{Carries, outcome_line, outcome_status}
 use Rattle.km_course.specs.Course.{Outcome, Run, Stage, if_understood}
 use Rattle.km_course.specs.Course.Outcome.{value}

@@ -5,7 +5,7 @@ use Rattle.std.specs.Prelude.{◌≡◌, ◌<◌, ◌≤◌, ℕ, Bool, true, Al
 use Rattle.std.specs.Prelude.{reverse, flat_map, codes, Option, Some, None, Ok, Err}
 use Rattle.std.specs.FinMap.{insert}
 use Rattle.km_names.specs.Path.{path_below}
-use Rattle.km_outside.specs.Contents.{Contents}
+use Rattle.outside_calls.specs.Contents.{Contents}
 use Rattle.km_course.specs.Lines.{line, refusal_text}
 use Rattle.km_course.specs.World.{World, Shown, Tells}
 use Rattle.km_course.specs.declared.refusal.Refusal.TheVariants.{LoadRefused, ParamsRefused}

@@ -1,7 +1,7 @@
 -- modprobe plans exactly if an order exists, and otherwise it names the first obstacle, whatever
 -- the files are. modprobe(8).
 use Rattle.std.specs.Prelude.{◌≡◌, ℕ, List, [], ◌++◌, take, Some, None, ⊤}
-use Rattle.km_outside.specs.Contents.{Contents}
+use Rattle.outside_calls.specs.Contents.{Contents}
 use Rattle.km_course.specs.Course.Outcome.{value}
 use Rattle.km_course.specs.Lines.{line}
 use Rattle.km_course.specs.World.{World, Shown, Tells}

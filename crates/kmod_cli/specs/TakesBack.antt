@@ -2,7 +2,7 @@
 -- prints of that, and what is left. modprobe(8), -r.
 use Rattle.std.specs.Prelude.{◌≡◌, ℕ, Bool, true, false, List, [], ◌++◌, reverse, Option, Some}
 use Rattle.std.specs.Prelude.{None, Ok}
-use Rattle.km_outside.specs.Contents.{Contents}
+use Rattle.outside_calls.specs.Contents.{Contents}
 use Rattle.km_course.specs.Lines.{line, refusal_text}
 use Rattle.km_course.specs.World.{World, Shown, Tells}
 use Rattle.km_course.specs.declared.refusal.Refusal.TheVariants.{InUse, RemoveChosen}

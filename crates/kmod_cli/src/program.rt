@@ -1,6 +1,6 @@
 // The program: the function that follows the course of its words, and those of its commands.
 ghost use Rattle.std.specs.Prelude.{◌≡◌, ◌∷◌, ℕ, List, codes};
-ghost use Rattle.km_outside.specs.FilesSeen.{FilesSeen};
+ghost use Rattle.outside_calls.specs.FilesSeen.{FilesSeen};
 ghost use Rattle.km_course.specs.World.{world};
 ghost use Rattle.km_course.specs.Carries.{Carries};
 ghost use Rattle.command_builtin_alias.specs.BuiltinAlias.{builtin_alias_course};
@@ -19,7 +19,7 @@ ghost use Rattle.kmod_cli.specs.TakesBack.{TakesBack};
 use crate::command::{Command, command_named};
 use km_course::{End, Stop, conclude};
 use km_names::Word;
-use km_outside::{Files, Out, Reads, Writes};
+use outside_calls::{Files, Out, Reads, Writes};
 use std::alloc::Global;
 
 /// Does all that the program does: carries out the course of the words, which are those after the

@@ -3,7 +3,7 @@ use Rattle.std.proofs.Common.{◌≡◌, ◌∙◌, ℕ, Bool, true, false, List
 use Rattle.std.proofs.Common.{refl, sym, ap, subst, append_assoc, append-nil, inl, inr}
 use Rattle.std.specs.Prelude.{Option, Some, ◌⊎◌, codes, is_some, if◌then◌else◌, ⊤}
 use Rattle.km_names.specs.Path.{path_below}
-use Rattle.km_outside.specs.Contents.{Contents}
+use Rattle.outside_calls.specs.Contents.{Contents}
 use Rattle.km_course.specs.Course.{Act, Outcome, Run, Stage, after, continued, ◌>>=◌, act_with}
 use Rattle.km_course.specs.Course.{each_from, given, gives, puts, reads_any, says_any}
 use Rattle.km_course.specs.Course.Act.{put, warn}

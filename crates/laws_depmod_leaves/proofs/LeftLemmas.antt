@@ -1,7 +1,7 @@
 -- A depmod that puts all files of an index into the folder of its modules leaves that folder as it
 -- indexed it.
 use Rattle.std.proofs.Common.{◌≡◌, ◌∙◌, None, sym, ap, subst}
-use Rattle.km_outside.specs.Contents.{Contents}
+use Rattle.outside_calls.specs.Contents.{Contents}
 use Rattle.kmod_words.specs.declared.depmod.DepmodWords.{DepmodWords}
 use Rattle.symbol_binding.specs.Symbols.{Kernel as SeenKernel}
 use Rattle.kernel_exports.specs.declared.kernel.Kernel.{Kernel}

@@ -11,7 +11,7 @@ use Rattle.std.proofs.lemmas.List.{length-map, take_all}
 use Rattle.std.proofs.lemmas.List.Elements.{All-from_recursion, All-head, All-tail}
 use Rattle.km_names.specs.First.{first}
 use Rattle.km_names.specs.Path.{is_compressed, path_below}
-use Rattle.km_outside.specs.Contents.{Contents, is_path}
+use Rattle.outside_calls.specs.Contents.{Contents, is_path}
 use Rattle.km_course.specs.Course.{Outcome, Stage, after, continued, ◌>>=◌, ends, given, lists_tree}
 use Rattle.km_course.specs.Course.{reads, reads_any, when◌then◌else◌}
 use Rattle.km_course.specs.Course.Outcome.{value, end}

@@ -3,7 +3,7 @@
 use Rattle.std.specs.Prelude.{◌≡◌, ℕ, true, false, List, [], ◌∷◌, ◌++◌, length, map, codes, Option}
 use Rattle.std.specs.Prelude.{Some, None, Ok}
 use Rattle.km_names.specs.Path.{is_compressed, path_below}
-use Rattle.km_outside.specs.Contents.{Contents}
+use Rattle.outside_calls.specs.Contents.{Contents}
 use Rattle.km_course.specs.Course.{Outcome, reads, reads_any}
 use Rattle.km_course.specs.Course.Outcome.{value, end}
 use Rattle.km_course.specs.declared.end.End.{End}

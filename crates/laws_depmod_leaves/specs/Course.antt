@@ -3,7 +3,7 @@ use Rattle.std.specs.Prelude.{◌≡◌, ℕ, Bool, true, List, [], ◌∷◌, �
 use Rattle.std.specs.Prelude.{None, is_some, if◌then◌else◌, ⊤}
 use Rattle.std.specs.List.{list_all}
 use Rattle.km_names.specs.Path.{path_below}
-use Rattle.km_outside.specs.Contents.{Contents}
+use Rattle.outside_calls.specs.Contents.{Contents}
 use Rattle.km_course.specs.Course.{Act, Outcome, Run}
 use Rattle.km_course.specs.Course.Act.{warn, put}
 use Rattle.km_course.specs.Course.Outcome.{value, end}

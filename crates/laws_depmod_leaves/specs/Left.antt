@@ -2,7 +2,7 @@
 use Rattle.std.specs.Prelude.{◌≡◌, ◌||◌, ℕ, true, false, List, [], ◌∷◌, is_some}
 use Rattle.std.specs.FinMap.{insert}
 use Rattle.km_names.specs.Path.{path_below}
-use Rattle.km_outside.specs.Contents.{Contents}
+use Rattle.outside_calls.specs.Contents.{Contents}
 use Rattle.kmod_words.specs.declared.depmod.DepmodWords.{DepmodWords}
 use Rattle.kernel_exports.specs.declared.kernel.Kernel.{Kernel}
 use Rattle.stages_files.specs.KernelTable.{table_of}

@@ -2,7 +2,7 @@
 -- depmod(8).
 use Rattle.std.specs.Prelude.{◌≡◌, ℕ, List, Option, Some, None}
 use Rattle.std.specs.FinMap.{get}
-use Rattle.km_outside.specs.Contents.{Contents}
+use Rattle.outside_calls.specs.Contents.{Contents}
 use Rattle.kmod_words.specs.declared.depmod.DepmodWords.{DepmodWords}
 use Rattle.kmod_words.specs.declared.modprobe.ModprobeWords.{ModprobeWords}
 use Rattle.kernel_exports.specs.declared.kernel.Kernel.{Kernel}

@@ -4,7 +4,7 @@ use Rattle.std.specs.Prelude.{None, filter}
 use Rattle.std.specs.List.{filter_map}
 use Rattle.std.specs.FinMap.{entries}
 use Rattle.km_names.specs.Path.{path_below}
-use Rattle.km_outside.specs.Contents.{Contents, by_bytes, is_conf_name, is_path, rest_after}
+use Rattle.outside_calls.specs.Contents.{Contents, by_bytes, is_conf_name, is_path, rest_after}
 use Rattle.km_course.specs.Course.{Outcome, Stage, ◌>>=◌, act_with, each_from, given, gives}
 use Rattle.km_course.specs.Course.{list_outcome, lists_any_conf, lists_or}
 use Rattle.km_course.specs.Course.Outcome.{value}

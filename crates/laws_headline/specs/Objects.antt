@@ -3,7 +3,7 @@
 use Rattle.std.specs.Prelude.{ℕ, zero, suc, ◌%◌, ◌/◌, false, List, [], ◌∷◌, flat_map, codes, None}
 use Rattle.std.specs.FinMap.{empty, insert}
 use Rattle.km_names.specs.Path.{path_below}
-use Rattle.km_outside.specs.Contents.{Contents}
+use Rattle.outside_calls.specs.Contents.{Contents}
 use Rattle.module_facts.specs.declared.facts.Facts.{Facts}
 
 -- ---- object files

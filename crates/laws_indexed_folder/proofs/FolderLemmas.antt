@@ -3,7 +3,7 @@ use Rattle.std.proofs.Common.{◌≡◌, ◌∙◌, ℕ, List, [], ◌∷◌, No
 use Rattle.std.specs.Prelude.{Result, Ok, IsOk}
 use Rattle.km_names.specs.Path.{path_below}
 use Rattle.km_names.specs.Statements.{LinePlace}
-use Rattle.km_outside.specs.Contents.{Contents}
+use Rattle.outside_calls.specs.Contents.{Contents}
 use Rattle.index_format.specs.Map.{KeyValues}
 use Rattle.module_facts.specs.declared.facts.Facts.{Facts}
 use Rattle.module_facts.specs.declared.module.Module.{Module}

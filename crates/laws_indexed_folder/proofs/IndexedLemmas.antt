@@ -5,7 +5,7 @@ use Rattle.std.specs.Prelude.{min, nat_lt, if◌then◌else◌}
 use Rattle.std.proofs.lemmas.Bool.Decides.{nat_tests}
 use Rattle.km_names.specs.Limit.{file_limit}
 use Rattle.km_names.specs.Path.{path_below}
-use Rattle.km_outside.specs.Contents.{Contents}
+use Rattle.outside_calls.specs.Contents.{Contents}
 use Rattle.index_format.specs.Map.{KeyValues}
 use Rattle.index_format.specs.File.{file}
 use Rattle.index_format.specs.Holds.{Holds}

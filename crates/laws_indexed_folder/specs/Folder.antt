@@ -1,7 +1,7 @@
 -- Loads of modules from a folder that is as depmod indexed it. modprobe(8).
 use Rattle.std.specs.Prelude.{◌≡◌, ℕ, List, [], ◌∷◌, Some, None, Ok, IsOk, slice_get}
 use Rattle.km_names.specs.Path.{path_below}
-use Rattle.km_outside.specs.Contents.{Contents}
+use Rattle.outside_calls.specs.Contents.{Contents}
 use Rattle.index_format.specs.Map.{Value, KeyValues, values_of}
 use Rattle.index_format.specs.Holds.{Holds}
 use Rattle.mod_tree.specs.DependencyLine.{own_path}

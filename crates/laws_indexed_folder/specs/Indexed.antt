@@ -4,7 +4,7 @@ use Rattle.std.specs.Prelude.{◌≡◌, ◌≤◌, ℕ, true, List, length, Som
 use Rattle.std.specs.FinMap.{get}
 use Rattle.km_names.specs.Limit.{file_limit}
 use Rattle.km_names.specs.Path.{path_below}
-use Rattle.km_outside.specs.Contents.{Contents}
+use Rattle.outside_calls.specs.Contents.{Contents}
 use Rattle.index_format.specs.Map.{KeyValues}
 use Rattle.index_format.specs.Holds.{Holds}
 use Rattle.module_facts.specs.declared.facts.Facts.{Facts}

@@ -4,8 +4,8 @@ use Rattle.std.proofs.Common.{sym, ap, subst}
 use Rattle.std.specs.Prelude.{Option, Some, None, nat_lt}
 use Rattle.std.specs.FinMap.{get}
 use Rattle.km_names.specs.Limit.{file_limit}
-use Rattle.km_outside.specs.Contents.{Contents, is_path, listed}
-use Rattle.km_outside.specs.FilesSeen.{list_limit}
+use Rattle.outside_calls.specs.Contents.{Contents, is_path, listed}
+use Rattle.outside_calls.specs.FilesSeen.{list_limit}
 use Rattle.km_course.specs.Course.{Act, Outcome, Stage, after, continued, ◌>>=◌, given, gives}
 use Rattle.km_course.specs.Course.{act_with, each_from, list_outcome, lists_or, puts, read_outcome}
 use Rattle.km_course.specs.Course.{reads_or, says, says_any, when◌then◌else◌}

@@ -8,7 +8,7 @@ use Rattle.km_names.specs.Limit.{file_limit}
 use Rattle.km_names.specs.Path.{path_below}
 use Rattle.km_names.specs.Statements.{LinePlace}
 use Rattle.km_names.specs.declared.conf.ConfFile.{ConfFile}
-use Rattle.km_outside.specs.Contents.{Contents}
+use Rattle.outside_calls.specs.Contents.{Contents}
 use Rattle.km_course.specs.Course.{Outcome, Stage, ◌>>=◌, given, gives, read_outcome, reads}
 use Rattle.km_course.specs.Course.{reads_any, reads_or, lists_any_conf, lists_conf}
 use Rattle.km_course.specs.Course.Outcome.{value, end}

@@ -2,7 +2,7 @@
 use Rattle.std.proofs.Common.{◌≡◌, ◌∙◌, ℕ, List, [], ◌∷◌, ◌++◌, None, true, refl, sym, ap, subst}
 use Rattle.std.specs.Prelude.{Option, Some, Result, Ok, Err, option_and_then, reverse}
 use Rattle.km_names.specs.Path.{path_below}
-use Rattle.km_outside.specs.Contents.{Contents}
+use Rattle.outside_calls.specs.Contents.{Contents}
 use Rattle.index_read.specs.declared.index.Index.{Index}
 use Rattle.module_facts.specs.declared.module.Module.{Module}
 use Rattle.mod_tree.specs.DependencyLine.{line_path}

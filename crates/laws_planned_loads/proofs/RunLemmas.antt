@@ -4,7 +4,7 @@ use Rattle.std.specs.Prelude.{◌&&◌}
 use Rattle.std.specs.FinMap.{get}
 use Rattle.std.specs.List.{list_all}
 use Rattle.std.proofs.lemmas.List.Folds.{list_all-append}
-use Rattle.km_outside.specs.Contents.{Contents}
+use Rattle.outside_calls.specs.Contents.{Contents}
 use Rattle.km_course.specs.Course.{Act, Outcome, Run, Stage, after, file_done, continued, ◌>>=◌}
 use Rattle.km_course.specs.Course.{given, act_with, each_from, read_outcome, lists_or, reads_or}
 use Rattle.km_course.specs.Course.{when◌then◌else◌}

@@ -2,7 +2,7 @@
 -- modprobe(8).
 use Rattle.std.specs.Prelude.{◌≡◌, ℕ, Bool, true, List, ◌++◌, reverse, Option, Some, ⊤}
 use Rattle.std.specs.List.{list_all}
-use Rattle.km_outside.specs.Contents.{Contents}
+use Rattle.outside_calls.specs.Contents.{Contents}
 use Rattle.kmod_words.specs.declared.modprobe.ModprobeWords.{ModprobeWords}
 use Rattle.kmod_words.specs.Modprobe.{region_asked}
 use Rattle.km_course.specs.Course.{Act, Outcome, Run}

@@ -2,7 +2,7 @@
 use Rattle.std.specs.Prelude.{◌≡◌, ◌≤◌, ℕ, true, List, [], ◌∷◌, length, None}
 use Rattle.km_names.specs.Limit.{file_limit}
 use Rattle.km_names.specs.Path.{path_below}
-use Rattle.km_outside.specs.Contents.{Contents}
+use Rattle.outside_calls.specs.Contents.{Contents}
 use Rattle.module_facts.specs.declared.module.Module.{Module}
 use Rattle.module_facts.specs.Faults.{fact_fault}
 use Rattle.mod_tree.specs.Tree.{is_module_path}

@@ -2,7 +2,7 @@
 use Rattle.std.proofs.Common.{◌≡◌, ◌∙◌, ℕ, Bool, true, false, List, [], ◌++◌, map, refl, sym, ap}
 use Rattle.std.proofs.Common.{subst, append_assoc, append-nil}
 use Rattle.std.specs.Prelude.{flat_map, reverse, codes, Some, None, Ok, ⊤}
-use Rattle.km_outside.specs.Contents.{Contents}
+use Rattle.outside_calls.specs.Contents.{Contents}
 use Rattle.kmod_words.specs.declared.modprobe.ModprobeWords.{ModprobeWords}
 use Rattle.km_course.specs.Course.{Act, Outcome, Run, Stage, ◌>>=◌, each_from, given, says_any}
 use Rattle.km_course.specs.Course.Outcome.{value, end}

@@ -6,7 +6,7 @@ use Rattle.std.specs.FinMap.{get, insert}
 use Rattle.std.specs.List.{AllByRecursion, list_all}
 use Rattle.std.proofs.lemmas.List.{reverse-append}
 use Rattle.km_names.specs.Path.{path_below, without_end_slashes}
-use Rattle.km_outside.specs.Contents.{Contents}
+use Rattle.outside_calls.specs.Contents.{Contents}
 use Rattle.kmod_words.specs.declared.modprobe.ModprobeWords.{ModprobeWords}
 use Rattle.km_course.specs.Course.{Act, Outcome, Stage, after, continued, ◌>>=◌, act_with, given}
 use Rattle.km_course.specs.Course.{gives, when◌then◌else◌}

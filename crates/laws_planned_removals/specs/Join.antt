@@ -4,7 +4,7 @@ use Rattle.std.specs.Prelude.{◌≡◌, ◌<◌, ℕ, true, false, List, ◌++�
 use Rattle.std.specs.Prelude.{None, Ok}
 use Rattle.std.specs.FinMap.{get}
 use Rattle.km_names.specs.Path.{is_compressed, path_below}
-use Rattle.km_outside.specs.Contents.{Contents}
+use Rattle.outside_calls.specs.Contents.{Contents}
 use Rattle.kmod_words.specs.declared.modprobe.ModprobeWords.{ModprobeWords}
 use Rattle.km_course.specs.Course.{after}
 use Rattle.km_course.specs.Course.Outcome.{value}

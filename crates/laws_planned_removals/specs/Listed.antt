@@ -1,6 +1,6 @@
 -- The listed modules that a removal takes. modules.dep(5), proc(5).
 use Rattle.std.specs.Prelude.{◌≡◌, ℕ, List, reverse, Ok}
-use Rattle.km_outside.specs.Contents.{Contents}
+use Rattle.outside_calls.specs.Contents.{Contents}
 use Rattle.km_course.specs.Course.Outcome.{value}
 use Rattle.module_facts.specs.declared.module.Module.{Module}
 use Rattle.name_lookup.specs.declared.indexes.Indexes.{Indexes}

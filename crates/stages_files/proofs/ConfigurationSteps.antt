@@ -12,7 +12,7 @@ use Rattle.std.specs.declared.cmp.Ordering.TheVariants.{Less, Equal, Greater}
 use Rattle.std.proofs.lemmas.List.{drop_more, drop_all, take_more, take_all}
 use Rattle.km_names.specs.Path.{path_below}
 use Rattle.km_names.specs.declared.conf.ConfFile.{ConfFile}
-use Rattle.km_outside.specs.Contents.{by_bytes}
+use Rattle.outside_calls.specs.Contents.{by_bytes}
 use Rattle.km_course.proofs.Steps.{gave}
 use Rattle.km_course.specs.Course.{Stage, ◌>>=◌, gives, each_from, lists_any_conf}
 use Rattle.km_course.specs.World.{World}

@@ -10,7 +10,7 @@ use Rattle.km_names.specs.Statements.{LinePlace}
 use Rattle.km_names.specs.declared.conf.ConfFile.{ConfFile}
 use Rattle.km_names.specs.declared.conf.ConfFault.{ConfFault}
 use Rattle.km_names.specs.declared.conf.ConfFault.TheVariants as faults
-use Rattle.km_outside.specs.Contents.{by_bytes}
+use Rattle.outside_calls.specs.Contents.{by_bytes}
 use Rattle.km_course.specs.Course.{Outcome, Stage, ◌>>=◌, gives, when◌then◌else◌, each_from, reads}
 use Rattle.km_course.specs.Course.{lists_conf, lists_any_conf}
 use Rattle.km_course.specs.Course.Outcome.{value, end}

@@ -3,7 +3,7 @@ ghost use Rattle.std.specs.Prelude.{◌≡◌, ◌≤◌, ◌∷◌, [], List, �
 ghost use Rattle.std.specs.BTreeMap as tree;
 ghost use Rattle.std.specs.FinMap as fin;
 ghost use Rattle.km_names.specs.Limit.{file_limit};
-ghost use Rattle.km_outside.specs.Contents.{by_bytes};
+ghost use Rattle.outside_calls.specs.Contents.{by_bytes};
 ghost use Rattle.km_course.specs.FollowsOn.{FollowsOnFiles};
 ghost use Rattle.stages_files.specs.Configuration.{roots as roots_spec, folder_name, with_names};
 ghost use Rattle.stages_files.specs.Configuration.{paths_of, entries_in_bytes, lists_folder};
@@ -13,7 +13,7 @@ ghost use Rattle.stages_files.specs.Configuration.{stop_of};
 
 use km_course::{Refusal, Stop, list_conf_needed, list_conf_optional, read_needed};
 use km_names::{ConfFault, ConfFile, ConfFiles, List as Items, Names, PathText, Paths, join};
-use km_outside::Reads;
+use outside_calls::Reads;
 use std::alloc::{AllocError, Global};
 use std::collections::BTreeMap;
 

@@ -6,7 +6,7 @@ ghost use Rattle.stages_files.specs.IndexFile.{index_outcome, reads_index};
 use index_read::{Index, IndexFault};
 use km_course::{Refusal, Stop, read_needed};
 use km_names::{Blob, PathText};
-use km_outside::Reads;
+use outside_calls::Reads;
 use std::alloc::Global;
 
 /// Reads the index in the file at the path, which is required.

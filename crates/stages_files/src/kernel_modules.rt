@@ -9,8 +9,8 @@ use index_read::Index;
 use index_read::plain::first_text;
 use km_course::{Refusal, Stop};
 use km_names::{Name, PathText, join, underscored};
-use km_outside::Reads;
 use mod_tree::line_path;
+use outside_calls::Reads;
 use std::alloc::{AllocError, Global};
 
 /// The modules of a kernel, as its modules.dep.bin lists them.

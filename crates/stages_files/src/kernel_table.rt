@@ -9,7 +9,7 @@ ghost use Rattle.stages_files.specs.KernelTable.{table_outcome, table_stop};
 
 use km_course::{Refusal, Stop, read_needed};
 use km_names::{Blob, PathText};
-use km_outside::Reads;
+use outside_calls::Reads;
 use provider_rel::{Kernel, KernelFault};
 use std::alloc::Global;
 

@@ -6,7 +6,7 @@ ghost use Rattle.stages_files.specs.ModuleFile.{reads_sections, sections_outcome
 use elf_sections::{SectionFault, Sections};
 use km_course::{Refusal, Stop, read_needed};
 use km_names::{Blob, PathText, is_compressed};
-use km_outside::Reads;
+use outside_calls::Reads;
 use std::alloc::Global;
 
 /// Reads the sections of the module at the path. A compressed module is refused unread.

@@ -11,10 +11,10 @@ ghost use Rattle.stages_known.specs.Known.{reads_loaded, reads_lists, reads_know
 use index_read::Index;
 use km_course::{Stop, read_needed, read_optional};
 use km_names::{Blob, ConfFile, ConfFiles, PathText, join};
-use km_outside::Reads;
 use loaded_list::Loaded;
 use modprobe_conf::{Rules, parse};
 use name_lookup::Indexes;
+use outside_calls::Reads;
 use stages_files::{Tool, read_configuration, read_index, stop_of_fault};
 use std::alloc::{AllocError, Global};
 use unmet_file::Unmet;

@@ -11,8 +11,8 @@ use crate::module::read_module_in;
 use index_read::Index;
 use km_course::{Refusal, Stop};
 use km_names::{Name, PathText};
-use km_outside::Reads;
 use model_loader::Machine;
+use outside_calls::Reads;
 use stages_files::path_listed;
 use std::alloc::Global;
 

@@ -10,9 +10,9 @@ use crate::module::read_module_in;
 use crate::shown::{Images, show_load};
 use km_course::{Refusal, Stop};
 use km_names::{Blob, List, Name, PathText};
-use km_outside::{Out, Writes};
 use model_loader::{LoadFault, Machine};
 use module_facts::Module;
+use outside_calls::{Out, Writes};
 use std::alloc::{AllocError, Global};
 
 /// Why a module is loaded.

@@ -12,8 +12,8 @@ ghost use Rattle.stages_loads.specs.Tables.{table_of_map, unplaced};
 
 use km_course::{Refusal, Stop, read_needed};
 use km_names::{Blob, PathText};
-use km_outside::Reads;
 use model_loader::{Machine, MachineFault, Region};
+use outside_calls::Reads;
 use provider_rel::{Kernel, SystemMap};
 use stages_files::{read_map, read_symvers, stop_of_table};
 use std::alloc::Global;

@@ -6,8 +6,8 @@ ghost use Rattle.stages_loads.specs.Modules.{file_outcome, reads_module};
 
 use km_course::{Refusal, Stop, read_needed};
 use km_names::{Blob, PathText, is_compressed, join};
-use km_outside::Reads;
 use module_facts::{Module, ModuleFault, read_module};
+use outside_calls::Reads;
 use std::alloc::Global;
 
 /// Reads the module at a path of the tree in the folder. A compressed one is refused unread.

@@ -9,9 +9,9 @@ ghost use Rattle.stages_loads.specs.Loads.{puts_image, shows_image, shows_load, 
 
 use km_course::{Refusal, Stop, put, say};
 use km_names::{Blob, Name, PathText, join};
-use km_outside::{Out, Writes};
 use model_loader::{LoadedModule, Machine};
 use module_facts::Module;
+use outside_calls::{Out, Writes};
 use param_apply::{ParamFault, Params, apply_params};
 use sha2::{Digest, Sha256};
 use std::alloc::{AllocError, Global};

@@ -1,7 +1,7 @@
 // Each call of a load fails in turn: what was printed and put before stays, and nothing else is
 // done.
 use crate::runs::expect_indexed;
-use km_outside::CallKind;
+use outside_calls::CallKind;
 use std::alloc::Global;
 use std::process::Abort;
 use test_rows::{Failing, FileRow, INDEX, IndexedRow, SYMVERS, SYSTEM_MAP, TWO, image};

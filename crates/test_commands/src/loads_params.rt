@@ -1,7 +1,7 @@
 // Loads whose parameters are written.
 use crate::runs::expect_indexed;
 use km_names::{Blob, List, Name};
-use km_outside::CallKind;
+use outside_calls::CallKind;
 use std::alloc::Global;
 use std::process::Abort;
 use test_rows::{Failing, FileRow, INDEX, IndexedRow, RowOf, SYMVERS, SYSTEM_MAP, USAGE, image};

@@ -1,6 +1,6 @@
 // Modules that are shown by their paths.
 use crate::runs::{expect_last, expect_over, run_words, same_seen};
-use km_outside::CallKind;
+use outside_calls::CallKind;
 use std::alloc::Global;
 use std::process::Abort;
 use test_objects::{LICENSE_OBJECT, NO_MORE, SheetRow};

@@ -4,7 +4,7 @@ use km_course::{
     read_needed, read_needed_into, read_optional, say, say_any, warn,
 };
 use km_names::{Blob, Name, Names, PathText};
-use km_outside::{FileBuffer, MemFiles, MemOut};
+use outside_calls::{FileBuffer, MemFiles, MemOut};
 use std::alloc::Global;
 use std::process::Abort;
 

@@ -2,7 +2,7 @@
 use crate::expect::{DONE, IndexRow, REFUSED, expect_again, objects_of};
 use crate::indexes::Index;
 use crate::sheets::{GIVES_FC, GIVES_LONG, LONG_VERSION_17, NEEDS_LONG};
-use km_outside::CallKind;
+use outside_calls::CallKind;
 use std::alloc::Global;
 use std::process::Abort;
 use test_objects::{NO_MORE, object_with};

@@ -2,7 +2,7 @@
 use crate::expect::{put_old, want_in};
 use crate::extra_trees::{NO_KEYS, NO_NODES, ONE_NODE, TTY, TTY_INDEX, TWO_NODES};
 use crate::runs::{expect_last, run_words};
-use km_outside::CallKind;
+use outside_calls::CallKind;
 use std::alloc::Global;
 use std::process::Abort;
 use test_objects::{NEEDS_NOSUCH, NO_MORE};

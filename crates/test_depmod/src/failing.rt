@@ -2,7 +2,7 @@
 // is done.
 use crate::expect::{DONE, IndexRow, expect_index, expect_rows};
 use crate::indexes::Index;
-use km_outside::CallKind;
+use outside_calls::CallKind;
 use std::alloc::Global;
 use std::process::Abort;
 use test_rows::{Failing, FileRow, TWO};

@@ -5,7 +5,7 @@ use crate::sheets::{
     ALIASES, CIRCLE_A, CIRCLE_B, CIRCLE_C, CIRCLE_P, GIVES_LONG, LONG_VERSION_17, LONG_VERSION_18,
     NEEDS_LONG,
 };
-use km_outside::CallKind;
+use outside_calls::CallKind;
 use test_objects::{
     FREE, GIVES, GIVES_ALONE, GIVES_VERSION_1, GPL_ONLY, IMPORTS, IN_SPACE, MAY_NEED,
     MAY_NEED_VERSION_2, NEEDS, NEEDS_NOSUCH, NO_MORE, NOTHING,

@@ -1,6 +1,6 @@
 // Modules that are shown by their names.
 use crate::runs::expect_over;
-use km_outside::CallKind;
+use outside_calls::CallKind;
 use std::alloc::Global;
 use std::process::Abort;
 use test_objects::LICENSE_OBJECT;

@@ -1,7 +1,7 @@
 // Trees by hand: a separate program worked out lengths and hashes of files from the ELF structures
 // and the generator of the draws.
 use km_names::PathText;
-use km_outside::MemFiles;
+use outside_calls::MemFiles;
 use std::alloc::Global;
 use std::process::Abort;
 use tree_gen::generate;

@@ -3,8 +3,8 @@
 //! `Objects` has the files and outputs that a command is run over, and the files as they are to be
 //! after it.
 //!
-//! It builds on `km_outside` for files and outputs in memory, on `km_names` for paths and words, and
-//! on `test_objects` for modules. No command is called here.
+//! It builds on `outside_calls` for files and outputs in memory, on `km_names` for paths and words,
+//! and on `test_objects` for modules. No command is called here.
 #![tactic(auto)]
 
 mod file_system;

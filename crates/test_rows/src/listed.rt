@@ -1,6 +1,6 @@
 // The paths of all files in memory.
 use km_names::{PathText, Paths, join};
-use km_outside::{FileAnswer, Files, MemFiles};
+use outside_calls::{FileAnswer, Files, MemFiles};
 use std::alloc::{AllocError, Global};
 
 /// Returns the paths of all files. A listing that was to fail fails here once.

@@ -2,7 +2,7 @@
 use crate::listed::paths_of;
 use crate::row::{Failing, FileRow, ModuleRow};
 use km_names::{List, PathText, Paths, Word, join};
-use km_outside::{FileAnswer, MemFiles, MemOut};
+use outside_calls::{FileAnswer, MemFiles, MemOut};
 use std::alloc::{AllocError, Global};
 use test_objects::{MoreRow, RowFault, SheetRow, object_with};
 

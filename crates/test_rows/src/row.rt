@@ -1,5 +1,5 @@
 // Rows that are written out.
-use km_outside::CallKind;
+use outside_calls::CallKind;
 use test_objects::{GIVES, MoreRow, NEEDS, NO_MORE, SheetRow};
 
 /// Words with a space between each and the next, the status that they are to answer, and what they

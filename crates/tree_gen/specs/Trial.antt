@@ -5,8 +5,8 @@ use Rattle.std.specs.Prelude.{false, pos, List, [], ◌∷◌, ◌++◌, map, fo
 use Rattle.std.specs.List.{range_with_len}
 use Rattle.std.specs.FinMap.{empty, insert}
 use Rattle.elf_format.specs.declared.relocation.TheConstants.{R_X86_64_64}
-use Rattle.km_outside.specs.Contents.{Contents}
-use Rattle.km_outside.specs.MemFilesSeen.{MemFilesSeen, no_files}
+use Rattle.outside_calls.specs.Contents.{Contents}
+use Rattle.outside_calls.specs.MemFilesSeen.{MemFilesSeen, no_files}
 use Rattle.sheet_object.specs.declared.sheet.Sheet.{Sheet}
 use Rattle.sheet_object.specs.declared.sheet.SheetExport.{SheetExport}
 use Rattle.sheet_object.specs.declared.sheet.SheetNeed.{SheetNeed}

@@ -3,7 +3,7 @@
 //! `sheet_object`, which its modules are made of.
 //!
 //! It builds on `sheet_object` for the objects of modules, on `km_names` for names and paths, and
-//! on `km_outside` for files in memory. It builds on `elf_format` for the relocation type of its
+//! on `outside_calls` for files in memory. It builds on `elf_format` for the relocation type of its
 //! words. The only error is out of memory.
 #![tactic(auto)]
 

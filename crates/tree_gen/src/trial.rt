@@ -6,7 +6,7 @@ ghost use Rattle.tree_gen.specs.Trial.{trial_files};
 use crate::draws::Draws;
 use crate::trial_sheet::{four_digits, module_sheet};
 use km_names::{Blob, PathText};
-use km_outside::MemFiles;
+use outside_calls::MemFiles;
 use sheet_object::object;
 use std::alloc::{AllocError, Global};
 

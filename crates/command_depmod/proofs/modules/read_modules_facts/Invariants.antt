@@ -1,6 +1,6 @@
 use Rattle.std.proofs.Common.{List, drop}
 use Rattle.module_facts.specs.declared.facts.Facts.{Facts}
-use Rattle.km_outside.specs.OutSeen.{OutSeen}
+use Rattle.outside_calls.specs.OutSeen.{OutSeen}
 use Rattle.km_course.specs.World.{world}
 use Rattle.km_course.proofs.Steps.{LeadsTo}
 use Rattle.command_depmod.specs.Modules.{reads_modules_facts}

@@ -1,7 +1,7 @@
 use Rattle.std.proofs.Common.{drop}
 use Rattle.std.specs.Prelude.{⊤}
-use Rattle.km_outside.specs.FilesSeen.{FilesSeen}
-use Rattle.km_outside.specs.OutSeen.{OutSeen}
+use Rattle.outside_calls.specs.FilesSeen.{FilesSeen}
+use Rattle.outside_calls.specs.OutSeen.{OutSeen}
 use Rattle.km_course.specs.World.{world}
 use Rattle.km_course.proofs.Steps.{LeadsTo}
 use Rattle.command_depmod.specs.Warnings.{warns_each}

@@ -1,7 +1,7 @@
 use Rattle.std.proofs.Common.{drop}
 use Rattle.std.specs.Prelude.{⊤}
-use Rattle.km_outside.specs.FilesSeen.{FilesSeen}
-use Rattle.km_outside.specs.OutSeen.{OutSeen}
+use Rattle.outside_calls.specs.FilesSeen.{FilesSeen}
+use Rattle.outside_calls.specs.OutSeen.{OutSeen}
 use Rattle.model_loader.specs.Machine.{Machine}
 use Rattle.km_course.specs.Course.{each_from}
 use Rattle.km_course.specs.World.{world}

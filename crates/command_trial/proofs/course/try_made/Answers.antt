@@ -1,7 +1,7 @@
 use Rattle.std.proofs.Common.{List, ℕ, ap, subst, ◌∙◌}
 use Rattle.std.specs.Prelude.{Ok, Err, ⊤}
 use Rattle.std.proofs.lemmas.Result.{err_from_is_err_and}
-use Rattle.km_outside.specs.MemOutSeen.{MemOutSeen}
+use Rattle.outside_calls.specs.MemOutSeen.{MemOutSeen}
 use Rattle.km_course.specs.Course.{says}
 use Rattle.km_course.specs.World.{world}
 use Rattle.km_course.specs.Follows.{Follows}

@@ -1,7 +1,7 @@
 use Rattle.std.proofs.Common.{drop, length, sym, ap, ◌∙◌}
 use Rattle.std.specs.Prelude.{⊤}
 use Rattle.std.proofs.lemmas.Result.{err_from_is_err_and}
-use Rattle.km_outside.specs.MemOutSeen.{MemOutSeen, mem_out_seen}
+use Rattle.outside_calls.specs.MemOutSeen.{MemOutSeen, mem_out_seen}
 use Rattle.km_course.specs.Conclusion.{conclusion_status}
 use Rattle.km_course.specs.Inner.{Left, inner_outcome}
 use Rattle.command_modprobe.specs.Modprobe.{modprobe_course}

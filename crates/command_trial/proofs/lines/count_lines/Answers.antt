@@ -1,6 +1,6 @@
 use Rattle.std.proofs.Common.{◌≡◌, length, arith}
 use Rattle.std.specs.Option.{option_to_list}
-use Rattle.km_outside.specs.Contents.{rest_after}
+use Rattle.outside_calls.specs.Contents.{rest_after}
 use Rattle.command_trial.proofs.LineSteps.{count-none}
 use Rattle.command_trial.proofs.lines.count_lines.Goals as goal
 

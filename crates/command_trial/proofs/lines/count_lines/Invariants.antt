@@ -2,7 +2,7 @@ use Rattle.std.proofs.Common.{◌≡◌, ◌+◌, ◌≤◌, length}
 use Rattle.std.specs.List.{flat_map}
 use Rattle.std.specs.Option.{option_to_list}
 use Rattle.km_names.specs.Lines.{lines_of}
-use Rattle.km_outside.specs.Contents.{rest_after}
+use Rattle.outside_calls.specs.Contents.{rest_after}
 use Rattle.command_trial.specs.Summary.{rests_of_lines}
 use Rattle.command_trial.proofs.lines.count_lines.Given as goal
 

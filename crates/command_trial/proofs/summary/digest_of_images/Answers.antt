@@ -1,7 +1,7 @@
 use Rattle.std.proofs.Common.{◌≡◌, codes, length, ap, ◌∙◌, arith}
 use Rattle.std.specs.Option.{option_to_list}
 use Rattle.sha2.specs.Sha256.{sha256}
-use Rattle.km_outside.specs.Contents.{rest_after}
+use Rattle.outside_calls.specs.Contents.{rest_after}
 use Rattle.command_trial.proofs.LineSteps.{images-none}
 use Rattle.command_trial.proofs.summary.digest_of_images.Goals as goal
 

@@ -3,7 +3,7 @@ use Rattle.std.specs.List.{flat_map}
 use Rattle.std.specs.Option.{option_to_list}
 use Rattle.sha2.specs.Hashers.{Holds256}
 use Rattle.km_names.specs.Lines.{lines_of}
-use Rattle.km_outside.specs.Contents.{rest_after}
+use Rattle.outside_calls.specs.Contents.{rest_after}
 use Rattle.command_trial.specs.Summary.{images_of, loaded}
 use Rattle.command_trial.proofs.summary.digest_of_images.Given as goal
 

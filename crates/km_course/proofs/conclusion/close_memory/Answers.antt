@@ -1,6 +1,6 @@
 use Rattle.std.proofs.Common.{◌≡◌, refl}
 use Rattle.std.specs.Prelude.{Result, Ok, Err, ⊤}
-use Rattle.km_outside.specs.declared.out.OutFailed.{OutFailed}
+use Rattle.outside_calls.specs.declared.out.OutFailed.{OutFailed}
 use Rattle.km_course.specs.Carries.{closed_status}
 use Rattle.km_course.specs.declared.stop.Stop.TheVariants.{Memory}
 use Rattle.km_course.proofs.conclusion.close_memory.Goals as goal

@@ -1,7 +1,7 @@
 use Rattle.std.proofs.Common.{◌++◌, subst, sym}
 use Rattle.std.specs.Prelude.{Ok, Err}
 use Rattle.std.proofs.lemmas.Result.{err_from_is_err_and}
-use Rattle.km_outside.specs.OutSeen.{WriteAnswers}
+use Rattle.outside_calls.specs.OutSeen.{WriteAnswers}
 use Rattle.km_course.proofs.Writes.{writes_on, writes_cut}
 use Rattle.km_course.proofs.conclusion.write_around.Goals as goal
 

@@ -1,6 +1,6 @@
 use Rattle.std.proofs.Common.{◌++◌, ◌∙◌, ap, subst, sym}
 use Rattle.std.specs.Prelude.{codes}
-use Rattle.km_outside.specs.OutSeen.{WriteAnswers}
+use Rattle.outside_calls.specs.OutSeen.{WriteAnswers}
 use Rattle.km_course.specs.Lines.{end_line}
 use Rattle.km_course.proofs.Writes.{too_large-pieces}
 use Rattle.km_course.proofs.conclusion.write_end.Goals as goal

@@ -1,8 +1,8 @@
 use Rattle.std.proofs.Common.{[], ◌∙◌, subst}
 use Rattle.std.specs.Prelude.{Err}
 use Rattle.std.proofs.lemmas.Result.{err_from_is_err_and}
-use Rattle.km_outside.specs.Contents.{is_conf_name}
-use Rattle.km_outside.specs.FilesSeen.{ListAnswers}
+use Rattle.outside_calls.specs.Contents.{is_conf_name}
+use Rattle.outside_calls.specs.FilesSeen.{ListAnswers}
 use Rattle.km_course.specs.Course.Outcome.{value}
 use Rattle.km_course.proofs.Primitives.{list_ok, list_absent, list_refused, conf_is_path, present}
 use Rattle.km_course.proofs.Steps.{wants}

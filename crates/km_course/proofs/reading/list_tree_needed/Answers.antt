@@ -1,6 +1,6 @@
 use Rattle.std.proofs.Common.{refl, ◌∙◌}
 use Rattle.std.proofs.lemmas.Result.{err_from_is_err_and}
-use Rattle.km_outside.specs.Contents.{is_path}
+use Rattle.outside_calls.specs.Contents.{is_path}
 use Rattle.km_course.specs.Course.Outcome.{end}
 use Rattle.km_course.specs.declared.end.End.TheVariants.{NoFile}
 use Rattle.km_course.proofs.Primitives.{list_ok, list_refused}

@@ -1,7 +1,7 @@
 use Rattle.std.proofs.Common.{[], ◌∙◌, subst}
 use Rattle.std.specs.Prelude.{Err}
 use Rattle.std.proofs.lemmas.Result.{err_from_is_err_and}
-use Rattle.km_outside.specs.FilesSeen.{ReadAnswers}
+use Rattle.outside_calls.specs.FilesSeen.{ReadAnswers}
 use Rattle.km_course.specs.Course.Outcome.{value}
 use Rattle.km_course.proofs.Primitives.{read_ok, read_absent, read_refused, present}
 use Rattle.km_course.proofs.Steps.{wants}

@@ -1,6 +1,6 @@
 use Rattle.std.proofs.Common.{subst}
 use Rattle.std.specs.Prelude.{Err}
-use Rattle.km_outside.specs.FilesSeen.{ReplaceAnswers}
+use Rattle.outside_calls.specs.FilesSeen.{ReplaceAnswers}
 use Rattle.km_course.proofs.Primitives.{put_ok, put_failed, put_wanting}
 use Rattle.km_course.proofs.writing.put.Goals as goal
 

@@ -1,5 +1,5 @@
 use Rattle.std.proofs.Common.{List, drop}
-use Rattle.km_outside.specs.OutSeen.{OutSeen}
+use Rattle.outside_calls.specs.OutSeen.{OutSeen}
 use Rattle.km_course.specs.World.{world}
 use Rattle.km_course.proofs.Steps.{LeadsTo}
 use Rattle.stages_files.specs.declared.configuration.ListedFolder.{ListedFolder}

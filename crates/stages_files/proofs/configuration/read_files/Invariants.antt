@@ -2,7 +2,7 @@ use Rattle.std.proofs.Common.{List, ◌≤◌, drop, length}
 use Rattle.std.specs.Prelude.{All}
 use Rattle.km_names.specs.Limit.{file_limit}
 use Rattle.km_names.specs.declared.conf.ConfFile.{ConfFile}
-use Rattle.km_outside.specs.OutSeen.{OutSeen}
+use Rattle.outside_calls.specs.OutSeen.{OutSeen}
 use Rattle.km_course.specs.World.{world}
 use Rattle.km_course.proofs.Steps.{LeadsTo}
 use Rattle.stages_files.specs.Configuration.{reads_files}

@@ -1,5 +1,5 @@
 use Rattle.std.proofs.Common.{sym, ap, ◌∙◌}
-use Rattle.km_outside.specs.MemFilesSeen.{with_file}
+use Rattle.outside_calls.specs.MemFilesSeen.{with_file}
 use Rattle.tree_gen.specs.Trial.{unused}
 use Rattle.tree_gen.proofs.TrialLemmas.{trial_more}
 use Rattle.tree_gen.proofs.trial.generate.Goals as goal

@@ -1,6 +1,6 @@
 use Rattle.std.proofs.Common.{◌≡◌, All, true, sym, ap, subst, ◌∙◌, arith}
 use Rattle.std.proofs.lemmas.List.Elements.{All-push}
-use Rattle.km_outside.specs.Listing.{test_of}
+use Rattle.outside_calls.specs.Listing.{test_of}
 use Rattle.km_outside.proofs.disk_listing.Walk.keep.Goals as goal
 
 pub returns-in_ok-push-in-File-clause-sound : goal.returns-in_ok-push-in-File-clause-sound

@@ -1,6 +1,0 @@
-use Rattle.std.proofs.Common.{◌≡◌, map}
-use Rattle.km_outside.proofs.disk_listing.as_list.Given as goal
-
--- the list has the paths so far
-abbrev pub invariant-loop-path : goal.invariant-loop-path
-invariant-loop-path g l = l.list ≡ map (λ path. path.items) l.yielded

@@ -1,0 +1,12 @@
+use Rattle.std.proofs.Common.{ap}
+use Rattle.outside_calls.specs.Contents.{is_conf_name}
+use Rattle.outside_calls.specs.MemFilesSeen.{mem_files_seen}
+use Rattle.outside_calls.specs.declared.mem_files.CallKind.TheVariants.{ListConf}
+use Rattle.outside_calls.proofs.MemLists.{mem_list_answers}
+use Rattle.outside_calls.proofs.mem_files.MemFilesReads.list_conf.Goals as goal
+
+pub returns-clause-answers : goal.returns-clause-answers
+returns-clause-answers c = (
+  ap mem_files_seen c.list.ensures.after,
+  mem_list_answers c.args.self.now ListConf is_conf_name c.args.dir.now _ c.list.ensures.exact,
+)

@@ -1,0 +1,12 @@
+pub mod CallsSeen
+pub mod CallCounts
+pub mod Codes
+pub mod Contents
+pub mod Counted
+pub mod Counts
+pub mod Entries
+pub mod FilesSeen
+pub mod Listing
+pub mod MemFilesSeen
+pub mod MemOutSeen
+pub mod OutSeen

@@ -1,0 +1,81 @@
+ghost use Rattle.std.specs.Prelude.{◌≡◌, ◌+◌, ◌≤◌, [], length, take, IfSome, OnOk};
+ghost use Rattle.km_names.specs.Limit.{file_limit};
+
+use crate::reading::read_limited;
+use km_names::Blob;
+use std::alloc::Global;
+use std::io;
+use std::io::Read;
+use std::marker::Model;
+
+/// The bytes of the file that was read last, in memory that the next read uses again. A contract
+/// sees it as those bytes.
+#[derive(Drop)]
+pub struct FileBuffer {
+    room: Vec<u8>,
+    filled: usize,
+}
+
+impl Model for FileBuffer {
+    ghost use Rattle.std.specs.Prelude.{ℕ, ◌+◌, ◌≤◌, List, take, vec_len};
+    ghost use Rattle.km_names.specs.Limit.{file_limit};
+
+    ghost Value = { List ℕ };
+
+    ghost view = { λ b. take b.filled b.room.items };
+
+    ghost invariant = { λ b. (b.filled ≤ vec_len b.room) × (vec_len b.room ≤ file_limit + 1) };
+}
+
+impl FileBuffer {
+    /// Returns the empty buffer. It takes no memory.
+    pub fn new(alloc: Global) -> Self
+        ensures { result ≡ [] }
+    {
+        FileBuffer {
+            room: Vec::new(alloc),
+            filled: 0,
+        }
+    }
+
+    /// Returns the bytes as a slice.
+    pub fn as_bytes(&self) -> &[u8]
+        ensures { result.now ≡ self.now }
+    {
+        &self.room[..self.filled]
+    }
+
+    /// Returns the bytes as an owned value, in the memory of the buffer.
+    pub fn into_blob(self) -> Blob
+        ensures { result ≡ self }
+    {
+        let FileBuffer { mut room, filled } = self;
+        room.truncate(filled);
+        Blob::from_vec(room)
+    }
+
+    /// Returns a buffer with the bytes of a file that was read, in their own memory.
+    pub(crate) fn from_blob(bytes: Blob) -> Self
+        requires { length bytes ≤ file_limit }
+        ensures { result ≡ bytes }
+    {
+        let filled = bytes.len();
+        FileBuffer {
+            room: bytes.into_vec(),
+            filled,
+        }
+    }
+
+    /// Reads to the end, and at most to one byte past [`FILE_LIMIT`](km_names::FILE_LIMIT), in
+    /// place of what was there. If about `expected` bytes are to come, memory for them is reserved
+    /// once. After an error, which is the reader's or out of memory, the buffer may hold any bytes.
+    pub fn read_from<R: Read>(&mut self, reader: &mut R, expected: usize) -> io::Result<()>
+        ensures limit { OnOk result (length self.new ≤ file_limit + 1) }
+        ensures bytes { OnOk result
+            (IfSome (R.remaining reader.old) (λ left. self.new ≡ take (file_limit + 1) left)) }
+    {
+        self.filled = 0;
+        self.filled = read_limited(reader, &mut self.room, expected)?;
+        Ok(())
+    }
+}
