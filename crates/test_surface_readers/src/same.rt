@@ -16,7 +16,7 @@ pub(crate) fn holds(rt: &impl Abort, is_so: bool)
 
 /// Stops unless these are the same bytes.
 pub(crate) fn same(rt: &impl Abort, got: &[u8], want: &[u8]) {
-    assert_eq!(rt; got, want);
+    holds(rt, got == want);
 }
 
 /// Stops unless a value is shown as this text, which has its fields by their names. It drops the
