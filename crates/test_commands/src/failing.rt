@@ -47,10 +47,9 @@ const FAILS: TreeRow<'static> = TreeRow {
     ..INDEXED
 };
 
-/// The calls of a load in their order, each counted from the first call of its kind, of which some
-/// were depmod's, with what was written and put before. The last run of each kind has no call of
-/// that number, and is done.
-static CALLS: [TreeRow<'static>; 21] = [
+/// The calls before the loads in their order, each counted from the first call of its kind, of which
+/// some were depmod's.
+static CALLS: [TreeRow<'static>; 13] = [
     TreeRow {
         failing: Failing::Call(CallKind::ListConf, 5),
         rows: &[(LOAD, 3, "", "kmod: file fault /etc/modprobe.d\n")],
@@ -146,6 +145,11 @@ static CALLS: [TreeRow<'static>; 21] = [
         rows: &[(LOAD, 3, "", "kmod: file fault /r/Module.symvers\n")],
         ..FAILS
     },
+];
+
+/// The calls of the loads, with what was written and put before. The last run of each kind has no
+/// call of that number, and is done.
+static LOADING: [TreeRow<'static>; 8] = [
     TreeRow {
         failing: Failing::Call(CallKind::Read, 13),
         rows: &[(
@@ -234,5 +238,6 @@ static WRITES: [TreeRow<'static>; 4] = [
 #[test]
 fn each_call_can_fail(rt: HostRuntime) {
     run_trees(rt.alloc(), &CALLS).expect(&rt, "calls that fail");
+    run_trees(rt.alloc(), &LOADING).expect(&rt, "loads that fail");
     run_trees(rt.alloc(), &WRITES).expect(&rt, "writes that fail");
 }

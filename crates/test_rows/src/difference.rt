@@ -19,8 +19,8 @@ pub enum Difference {
 }
 
 impl From<AllocError> for Difference {
-    fn from(refusal: AllocError) -> Difference {
-        Difference::Unprepared(RowFault::from(refusal))
+    fn from(_refusal: AllocError) -> Difference {
+        Difference::Unprepared(RowFault::Memory)
     }
 }
 
@@ -38,7 +38,7 @@ impl From<FileAnswer> for Difference {
 
 /// Compares the status that the last command answered, and what its outputs have, with what a row
 /// says. The name tells a row that differs.
-pub fn compare_seen(
+pub(crate) fn compare_seen(
     alloc: Global,
     objects: &Objects,
     row: RowOf<'_>,

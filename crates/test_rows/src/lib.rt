@@ -18,7 +18,7 @@ mod runs;
 pub use difference::{Difference, compare_all};
 pub use file_system::{FILE_SYSTEM, FILE_SYSTEM_KERNEL};
 pub use images::image;
-pub use objects::{FOLDER, Objects, path_in, words_of};
+pub use objects::{Objects, words_of};
 pub use row::{
     EXTRA, Failing, FileRow, INDEX, INDEXED, ImageRow, ModuleRow, PLAIN, Row, RowOf, SYMVERS,
     SYSTEM_MAP, TWO, TreeRow, USAGE,

@@ -1,14 +1,11 @@
 // What a command is handed, and what it leaves.
 use crate::images::image;
 use crate::listed::paths_of;
-use crate::row::{Failing, FileRow, ImageRow, ModuleRow, TreeRow};
+use crate::row::{FOLDER, Failing, FileRow, ImageRow, ModuleRow, TreeRow};
 use km_names::{List, PathText, Paths, Word, join};
 use km_outside::{FileAnswer, MemFiles, MemOut};
 use std::alloc::{AllocError, Global};
 use test_objects::{MoreRow, RowFault, SheetRow, object_with};
-
-/// The folder of a kernel's modules.
-pub const FOLDER: &[u8] = b"/r/lib/modules/6.1.0";
 
 /// The names of the files of depmod, in the order in which they are replaced.
 static NAMES: [&[u8]; 11] = [
@@ -54,7 +51,7 @@ impl Objects {
     }
 
     /// Puts a file, which is to stay. The only error is out of memory.
-    pub fn put(&mut self, path: &PathText, bytes: &[u8]) -> Result<(), AllocError> {
+    fn put(&mut self, path: &PathText, bytes: &[u8]) -> Result<(), AllocError> {
         self.files.put(path, bytes)?;
         self.wanted.put(path, bytes)
     }
@@ -160,7 +157,7 @@ impl Objects {
 
     /// Wants the files as they are. A listing that was to fail fails here once. The only error is
     /// out of memory.
-    pub fn want_all(&mut self, alloc: Global) -> Result<(), FileAnswer> {
+    pub(crate) fn want_all(&mut self, alloc: Global) -> Result<(), FileAnswer> {
         let paths = paths_of(alloc, &mut self.files)?;
         for path in paths.as_slice() {
             if let Some(bytes) = self.files.get(path) {
@@ -173,7 +170,7 @@ impl Objects {
     /// Returns the path of the first file that isn't as it is to be, if there is one: of those that
     /// are there, and then of those that are wanted. A listing that was to fail fails here once.
     /// The only error is out of memory.
-    pub fn differing(&mut self, alloc: Global) -> Result<Option<PathText>, FileAnswer> {
+    pub(crate) fn differing(&mut self, alloc: Global) -> Result<Option<PathText>, FileAnswer> {
         let paths = paths_of(alloc, &mut self.files)?;
         if let Some(path) = self.other_of(alloc, &paths)? {
             return Ok(Some(path));
@@ -194,7 +191,7 @@ impl Objects {
 }
 
 /// Returns the path of a file in a folder. The only error is out of memory.
-pub fn path_in(alloc: Global, folder: &[u8], name: &[u8]) -> Result<PathText, AllocError> {
+fn path_in(alloc: Global, folder: &[u8], name: &[u8]) -> Result<PathText, AllocError> {
     let folder = PathText::from_slice(alloc, folder)?;
     join(alloc, &folder, name)
 }

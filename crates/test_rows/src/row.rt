@@ -1,7 +1,9 @@
 // Rows that are written out.
-use crate::objects::FOLDER;
 use km_outside::CallKind;
 use test_objects::{GIVES, MoreRow, NEEDS, NO_MORE, SheetRow};
+
+/// The folder of a kernel's modules.
+pub(crate) const FOLDER: &[u8] = b"/r/lib/modules/6.1.0";
 
 /// Words with a space between each and the next, the status that they are to answer, and what they
 /// are to write to the output and to err.
