@@ -36,20 +36,6 @@ impl From<FileAnswer> for Difference {
     }
 }
 
-/// Compares the status that the last command answered, and what its outputs have, with what a row
-/// says. The name tells a row that differs.
-pub(crate) fn compare_seen(
-    alloc: Global,
-    objects: &Objects,
-    row: RowOf<'_>,
-    name: &str,
-) -> Result<(), Difference> {
-    let (_, status, out, err) = row;
-    compare(alloc, (name, "err"), objects.err.bytes(), err.as_bytes())?;
-    compare(alloc, (name, "status"), &[objects.status], &[status])?;
-    compare(alloc, (name, "out"), objects.out.bytes(), out.as_bytes())
-}
-
 /// Compares what came out of the last command with what a row says, and every file with what it is
 /// to have.
 pub fn compare_all(
@@ -63,6 +49,20 @@ pub fn compare_all(
         Some(path) => Err(other_file(alloc, objects, name, &path)?),
         None => Ok(()),
     }
+}
+
+/// Compares the status that the last command answered, and what its outputs have, with what a row
+/// says. The name tells a row that differs.
+pub(crate) fn compare_seen(
+    alloc: Global,
+    objects: &Objects,
+    row: RowOf<'_>,
+    name: &str,
+) -> Result<(), Difference> {
+    let (_, status, out, err) = row;
+    compare(alloc, (name, "err"), objects.err.bytes(), err.as_bytes())?;
+    compare(alloc, (name, "status"), &[objects.status], &[status])?;
+    compare(alloc, (name, "out"), objects.out.bytes(), out.as_bytes())
 }
 
 /// Compares bytes. The names are those of the row and of what is compared.

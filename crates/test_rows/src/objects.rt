@@ -50,12 +50,6 @@ impl Objects {
         })
     }
 
-    /// Puts a file, which is to stay. The only error is out of memory.
-    fn put(&mut self, path: &PathText, bytes: &[u8]) -> Result<(), AllocError> {
-        self.files.put(path, bytes)?;
-        self.wanted.put(path, bytes)
-    }
-
     /// Puts the modules and other files of a tree, with the old index if there is one, and sets
     /// what fails. It is refused if a module isn't a sheet.
     pub fn fill(&mut self, alloc: Global, tree: &TreeRow<'_>) -> Result<(), RowFault> {
@@ -67,15 +61,6 @@ impl Objects {
         Ok(self.set_failing(tree.failing)?)
     }
 
-    /// Puts files that are written out, which are to stay. The only error is out of memory.
-    fn put_files(&mut self, alloc: Global, files: &[FileRow<'_>]) -> Result<(), AllocError> {
-        for file in files {
-            let path = PathText::from_slice(alloc, file.path.as_bytes())?;
-            self.put(&path, file.bytes)?;
-        }
-        Ok(())
-    }
-
     /// Puts modules, which are to stay. They are refused if one isn't a sheet.
     pub fn put_modules(
         &mut self,
@@ -84,6 +69,52 @@ impl Objects {
     ) -> Result<(), RowFault> {
         for (path, sheet, more) in modules {
             self.put_module(alloc, path, (sheet, more))?;
+        }
+        Ok(())
+    }
+
+    /// Wants the files that the rows of a tree leave. The only error is out of memory.
+    pub fn want_after(&mut self, alloc: Global, tree: &TreeRow<'_>) -> Result<(), AllocError> {
+        self.want_index(alloc, tree)?;
+        self.want_files(alloc, tree.after)?;
+        self.want_images(alloc, tree.images)
+    }
+
+    /// Wants the files as they are. A listing that was to fail fails here once. The only error is
+    /// out of memory.
+    pub(crate) fn want_all(&mut self, alloc: Global) -> Result<(), FileAnswer> {
+        let paths = paths_of(alloc, &mut self.files)?;
+        for path in paths.as_slice() {
+            if let Some(bytes) = self.files.get(path) {
+                self.wanted.put(path, bytes)?;
+            }
+        }
+        Ok(())
+    }
+
+    /// Returns the path of the first file that isn't as it is to be, if there is one: of those that
+    /// are there, and then of those that are wanted. A listing that was to fail fails here once.
+    /// The only error is out of memory.
+    pub(crate) fn differing(&mut self, alloc: Global) -> Result<Option<PathText>, FileAnswer> {
+        let paths = paths_of(alloc, &mut self.files)?;
+        if let Some(path) = self.other_of(alloc, &paths)? {
+            return Ok(Some(path));
+        }
+        let paths = paths_of(alloc, &mut self.wanted)?;
+        Ok(self.other_of(alloc, &paths)?)
+    }
+
+    /// Puts a file, which is to stay. The only error is out of memory.
+    fn put(&mut self, path: &PathText, bytes: &[u8]) -> Result<(), AllocError> {
+        self.files.put(path, bytes)?;
+        self.wanted.put(path, bytes)
+    }
+
+    /// Puts files that are written out, which are to stay. The only error is out of memory.
+    fn put_files(&mut self, alloc: Global, files: &[FileRow<'_>]) -> Result<(), AllocError> {
+        for file in files {
+            let path = PathText::from_slice(alloc, file.path.as_bytes())?;
+            self.put(&path, file.bytes)?;
         }
         Ok(())
     }
@@ -148,37 +179,6 @@ impl Objects {
         Ok(())
     }
 
-    /// Wants the files that the rows of a tree leave. The only error is out of memory.
-    pub fn want_after(&mut self, alloc: Global, tree: &TreeRow<'_>) -> Result<(), AllocError> {
-        self.want_index(alloc, tree)?;
-        self.want_files(alloc, tree.after)?;
-        self.want_images(alloc, tree.images)
-    }
-
-    /// Wants the files as they are. A listing that was to fail fails here once. The only error is
-    /// out of memory.
-    pub(crate) fn want_all(&mut self, alloc: Global) -> Result<(), FileAnswer> {
-        let paths = paths_of(alloc, &mut self.files)?;
-        for path in paths.as_slice() {
-            if let Some(bytes) = self.files.get(path) {
-                self.wanted.put(path, bytes)?;
-            }
-        }
-        Ok(())
-    }
-
-    /// Returns the path of the first file that isn't as it is to be, if there is one: of those that
-    /// are there, and then of those that are wanted. A listing that was to fail fails here once.
-    /// The only error is out of memory.
-    pub(crate) fn differing(&mut self, alloc: Global) -> Result<Option<PathText>, FileAnswer> {
-        let paths = paths_of(alloc, &mut self.files)?;
-        if let Some(path) = self.other_of(alloc, &paths)? {
-            return Ok(Some(path));
-        }
-        let paths = paths_of(alloc, &mut self.wanted)?;
-        Ok(self.other_of(alloc, &paths)?)
-    }
-
     /// Returns the first of these paths whose file isn't as it is to be.
     fn other_of(&self, alloc: Global, paths: &Paths) -> Result<Option<PathText>, AllocError> {
         for path in paths.as_slice() {
@@ -188,6 +188,18 @@ impl Objects {
         }
         Ok(None)
     }
+}
+
+/// Returns the words of a text, with one space between each and the next. An empty text has none.
+/// The only error is out of memory.
+pub fn words_of(alloc: Global, text: &str) -> Result<List<Word>, AllocError> {
+    let mut words = List::new(alloc);
+    if !text.is_empty() {
+        for word in text.split(' ') {
+            words.push(Word::from_text(alloc, word)?)?;
+        }
+    }
+    Ok(words)
 }
 
 /// Returns the path of a file in a folder. The only error is out of memory.
@@ -203,16 +215,4 @@ fn module_path(alloc: Global, path: &[u8]) -> Result<PathText, AllocError> {
     } else {
         path_in(alloc, FOLDER, path)
     }
-}
-
-/// Returns the words of a text, with one space between each and the next. An empty text has none.
-/// The only error is out of memory.
-pub fn words_of(alloc: Global, text: &str) -> Result<List<Word>, AllocError> {
-    let mut words = List::new(alloc);
-    if !text.is_empty() {
-        for word in text.split(' ') {
-            words.push(Word::from_text(alloc, word)?)?;
-        }
-    }
-    Ok(words)
 }

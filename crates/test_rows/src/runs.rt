@@ -23,12 +23,6 @@ pub fn run_tree(alloc: Global, tree: &TreeRow<'_>) -> Result<(), Difference> {
     Ok(())
 }
 
-/// Runs a row of a tree over objects of its own.
-fn run_row(alloc: Global, tree: &TreeRow<'_>, row: RowOf<'_>) -> Result<(), Difference> {
-    let mut objects = Objects::new(alloc)?;
-    run_over(alloc, &mut objects, tree, row)
-}
-
 /// Puts the files of a tree into objects, and runs a row over them.
 pub fn run_over(
     alloc: Global,
@@ -39,16 +33,6 @@ pub fn run_over(
     objects.fill(alloc, tree)?;
     run_first(alloc, objects, tree.first)?;
     run_next(alloc, objects, tree, row)
-}
-
-/// Runs words that are to be done and write nothing, if there are any. What they leave is to stay.
-pub fn run_first(alloc: Global, objects: &mut Objects, words: &str) -> Result<(), Difference> {
-    if words.is_empty() {
-        return Ok(());
-    }
-    run_words(alloc, objects, words)?;
-    compare_seen(alloc, objects, (words, 0, "", ""), words)?;
-    Ok(objects.want_all(alloc)?)
 }
 
 /// Runs a row over the files that are there, which the tree's are to be put into afterwards.
@@ -62,6 +46,22 @@ pub fn run_next(
     objects.want_after(alloc, tree)?;
     run_words(alloc, objects, words)?;
     compare_all(alloc, objects, row, name_of(tree, words))
+}
+
+/// Runs words that are to be done and write nothing, if there are any. What they leave is to stay.
+pub fn run_first(alloc: Global, objects: &mut Objects, words: &str) -> Result<(), Difference> {
+    if words.is_empty() {
+        return Ok(());
+    }
+    run_words(alloc, objects, words)?;
+    compare_seen(alloc, objects, (words, 0, "", ""), words)?;
+    Ok(objects.want_all(alloc)?)
+}
+
+/// Runs a row of a tree over objects of its own.
+fn run_row(alloc: Global, tree: &TreeRow<'_>, row: RowOf<'_>) -> Result<(), Difference> {
+    let mut objects = Objects::new(alloc)?;
+    run_over(alloc, &mut objects, tree, row)
 }
 
 /// Returns what tells a row: the name of its tree, or else its words.
