@@ -23,8 +23,6 @@ mod plans;
 #[cfg(test)]
 mod removals;
 #[cfg(test)]
-mod runs;
-#[cfg(test)]
 mod sheets;
 #[cfg(test)]
 mod trials;

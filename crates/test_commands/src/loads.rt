@@ -1,18 +1,15 @@
 // Loads into the modelled machine.
-use crate::runs::{expect_indexed, expect_trees};
-use std::alloc::Global;
-use std::process::Abort;
 use test_objects::{GIVES_ALONE, GPL_ONLY, MAY_NEED, NO_MORE};
 use test_rows::{
-    FILE_SYSTEM, FILE_SYSTEM_KERNEL, Failing, FileRow, INDEX, INDEXED, IndexedRow, RowOf, SYMVERS,
-    SYSTEM_MAP, TWO, USAGE, image,
+    FILE_SYSTEM, FILE_SYSTEM_KERNEL, FileRow, INDEXED, ImageRow, RowOf, SYMVERS, SYSTEM_MAP, TWO,
+    TreeRow, USAGE, run_tree, run_trees,
 };
 
 /// Trees, and what is loaded of each. No image is put.
-static TREES: [IndexedRow<'static>; 6] = [
+static TREES: [TreeRow<'static>; 6] = [
     // Two modules are loaded: the lines of the plan, and then the lines of the loads with the
     // digests of the images.
-    IndexedRow {
+    TreeRow {
         name: "two modules are loaded",
         modules: TWO,
         files: &[SYMVERS, SYSTEM_MAP],
@@ -43,7 +40,7 @@ static TREES: [IndexedRow<'static>; 6] = [
         ..INDEXED
     },
     // A weak need that nobody provides.
-    IndexedRow {
+    TreeRow {
         name: "a weak need is loaded",
         modules: &[("kernel/w.ko", &MAY_NEED, &NO_MORE)],
         files: &[SYMVERS, SYSTEM_MAP],
@@ -59,7 +56,7 @@ static TREES: [IndexedRow<'static>; 6] = [
     },
     // Modules that are listed as loaded and can't be: one that the index doesn't have, and one that
     // needs what is missing.
-    IndexedRow {
+    TreeRow {
         name: "listed modules are refused",
         modules: TWO,
         files: &[
@@ -93,7 +90,7 @@ static TREES: [IndexedRow<'static>; 6] = [
         ..INDEXED
     },
     // A kernel that exports what has no address, and words without the addresses of a kernel.
-    IndexedRow {
+    TreeRow {
         name: "loads need addresses",
         modules: TWO,
         files: &[
@@ -116,7 +113,7 @@ static TREES: [IndexedRow<'static>; 6] = [
     },
     // A weak need that a module provides: the provider is loaded first, and the word has its
     // address.
-    IndexedRow {
+    TreeRow {
         name: "a weak need with a provider is bound",
         modules: &[
             ("kernel/p.ko", &GIVES_ALONE, &NO_MORE),
@@ -138,7 +135,7 @@ static TREES: [IndexedRow<'static>; 6] = [
     },
     // A weak need of a GPL-only export, by a module without a free license: both are loaded, and
     // the word has no address.
-    IndexedRow {
+    TreeRow {
         name: "a weak need that isn't seen is loaded",
         modules: &[
             ("kernel/a.ko", &GIVES_ALONE, &GPL_ONLY),
@@ -174,42 +171,34 @@ const FILE_SYSTEM_LOAD: RowOf<'static> = (
     "",
 );
 
-/// The word of `jbd2`: the address of one of the kernel's.
-const JBD2_WORD: &[u8] = b"\x40\x00\x00\x81\xff\xff\xff\xff";
-
-/// The words of `ext4`: the addresses of what two helpers export, and the way to one of the
-/// kernel's.
-const EXT4_WORDS: &[u8] =
-    b"\x00\x20\x00\xc0\xff\xff\xff\xff\x00\x00\x00\xc0\xff\xff\xff\xff\xec\xbf\xff\xc0";
-
-/// Loads a file system with two helpers, over a kernel of 40 names, and compares both images byte
-/// for byte.
-fn expect_file_system(rt: &impl Abort, alloc: Global) {
-    let jbd2 = image(alloc, 8192, &[(4096, JBD2_WORD)]).expect(rt, "an image");
-    let ext4 = image(alloc, 4096, &[(0, EXT4_WORDS)]).expect(rt, "an image");
-    let tree = IndexedRow {
-        name: "a file system is loaded",
-        modules: FILE_SYSTEM,
-        files: FILE_SYSTEM_KERNEL,
-        failing: Failing::Nothing,
-        first: INDEX,
-        rows: &[FILE_SYSTEM_LOAD],
-        after: &[
-            FileRow {
-                path: "/r/img/jbd2.img",
-                bytes: jbd2.as_slice(),
-            },
-            FileRow {
-                path: "/r/img/ext4.img",
-                bytes: ext4.as_slice(),
-            },
-        ],
-    };
-    expect_indexed(rt, alloc, &tree);
-}
+/// The load of a file system with two helpers, over a kernel of 40 names. Both images are whole: that
+/// of `jbd2` has the address of one of the kernel's, and that of `ext4` the addresses of what two
+/// helpers export, and the way to one of the kernel's.
+static FILE_SYSTEM_TREE: TreeRow<'static> = TreeRow {
+    name: "a file system is loaded",
+    modules: FILE_SYSTEM,
+    files: FILE_SYSTEM_KERNEL,
+    rows: &[FILE_SYSTEM_LOAD],
+    images: &[
+        ImageRow {
+            path: "/r/img/jbd2.img",
+            length: 8192,
+            pieces: &[(4096, b"\x40\x00\x00\x81\xff\xff\xff\xff")],
+        },
+        ImageRow {
+            path: "/r/img/ext4.img",
+            length: 4096,
+            pieces: &[(
+                0,
+                b"\x00\x20\x00\xc0\xff\xff\xff\xff\x00\x00\x00\xc0\xff\xff\xff\xff\xec\xbf\xff\xc0",
+            )],
+        },
+    ],
+    ..INDEXED
+};
 
 #[test]
 fn modules_are_loaded_or_refused(rt: HostRuntime) {
-    expect_trees(&rt, rt.alloc(), &TREES);
-    expect_file_system(&rt, rt.alloc());
+    run_trees(rt.alloc(), &TREES).expect(&rt, "loads");
+    run_tree(rt.alloc(), &FILE_SYSTEM_TREE).expect(&rt, "a file system");
 }

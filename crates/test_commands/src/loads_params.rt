@@ -1,10 +1,11 @@
 // Loads whose parameters are written.
-use crate::runs::expect_indexed;
 use km_names::{Blob, List, Name};
 use outside_calls::CallKind;
 use std::alloc::Global;
 use std::process::Abort;
-use test_rows::{Failing, FileRow, INDEX, IndexedRow, RowOf, SYMVERS, SYSTEM_MAP, USAGE, image};
+use test_rows::{
+    Failing, FileRow, INDEXED, ImageRow, RowOf, SYMVERS, SYSTEM_MAP, TreeRow, USAGE, run_tree,
+};
 use tree_gen::{SheetParam, SheetParams, param_object};
 
 /// Loads of a module of two parameters: the last word counts, words that name no parameter and
@@ -175,51 +176,49 @@ static CONFIGURATION: [FileRow<'static>; 3] = [
     },
 ];
 
-/// What the image of the module has in the machine: the addresses of names and values, and the
-/// names.
-static OWN: [(usize, &[u8]); 5] = [
-    (0, b"\x10\x10\x00\xc0\xff\xff\xff\xff"),
-    (32, b"\x00\x10\x00\xc0\xff\xff\xff\xff"),
-    (40, b"\x16\x10\x00\xc0\xff\xff\xff\xff"),
-    (72, b"\x08\x10\x00\xc0\xff\xff\xff\xff"),
-    (4112, b"depth\0raw\0"),
+/// The image of the module in the machine, with the addresses of names and values, and the names;
+/// and the same with `depth=3 raw`.
+static IMAGES: [ImageRow<'static>; 2] = [
+    ImageRow {
+        path: "/r/img/p.img",
+        length: 8192,
+        pieces: &[
+            (0, b"\x10\x10\x00\xc0\xff\xff\xff\xff"),
+            (32, b"\x00\x10\x00\xc0\xff\xff\xff\xff"),
+            (40, b"\x16\x10\x00\xc0\xff\xff\xff\xff"),
+            (72, b"\x08\x10\x00\xc0\xff\xff\xff\xff"),
+            (4112, b"depth\0raw\0"),
+        ],
+    },
+    ImageRow {
+        path: "/r/img/p.params.img",
+        length: 8192,
+        pieces: &[
+            (0, b"\x10\x10\x00\xc0\xff\xff\xff\xff"),
+            (32, b"\x00\x10\x00\xc0\xff\xff\xff\xff"),
+            (40, b"\x16\x10\x00\xc0\xff\xff\xff\xff"),
+            (72, b"\x08\x10\x00\xc0\xff\xff\xff\xff"),
+            (4112, b"depth\0raw\0"),
+            (4096, b"\x03"),
+            (4104, b"\x01"),
+        ],
+    },
 ];
 
-/// The same with `depth=3 raw`.
-static FINISHED: [(usize, &[u8]); 7] = [
-    (0, b"\x10\x10\x00\xc0\xff\xff\xff\xff"),
-    (32, b"\x00\x10\x00\xc0\xff\xff\xff\xff"),
-    (40, b"\x16\x10\x00\xc0\xff\xff\xff\xff"),
-    (72, b"\x08\x10\x00\xc0\xff\xff\xff\xff"),
-    (4112, b"depth\0raw\0"),
-    (4096, b"\x03"),
-    (4104, b"\x01"),
-];
-
-/// The parameters, with their types.
-static TWO: [(&[u8], &[u8]); 2] = [(b"depth", b"int"), (b"raw", b"bool")];
-
-/// Returns a name.
-fn name_of(rt: &impl Abort, alloc: Global, text: &[u8]) -> Name {
-    Name::from_slice(alloc, text).expect(rt, "a name")
-}
-
-/// Returns two parameters.
-fn two(rt: &impl Abort, alloc: Global) -> SheetParams {
-    let mut params: SheetParams = List::new(alloc);
-    for (name, kind) in &TWO {
-        let param = SheetParam {
-            name: name_of(rt, alloc, name),
-            kind: name_of(rt, alloc, kind),
-        };
-        params.push(param).expect(rt, "a parameter more");
-    }
-    params
+/// Adds a parameter with its type.
+fn push_param(rt: &impl Abort, alloc: Global, params: &mut SheetParams, name: &[u8], kind: &[u8]) {
+    let param = SheetParam {
+        name: Name::from_slice(alloc, name).expect(rt, "a name"),
+        kind: Name::from_slice(alloc, kind).expect(rt, "a name"),
+    };
+    params.push(param).expect(rt, "a parameter more");
 }
 
 /// Returns an object with two parameters.
 fn object_of_two(rt: &impl Abort, alloc: Global) -> Blob {
-    let params = two(rt, alloc);
+    let mut params: SheetParams = List::new(alloc);
+    push_param(rt, alloc, &mut params, b"depth", b"int");
+    push_param(rt, alloc, &mut params, b"raw", b"bool");
     param_object(alloc, &params).expect(rt, "an object")
 }
 
@@ -237,50 +236,37 @@ fn files_of(object: &[u8]) -> [FileRow<'_>; 7] {
     [p, q, SYMVERS, SYSTEM_MAP, ended, bad, good]
 }
 
-/// Runs each row over the indexed tree, and compares the outcome, with every file.
-fn expect<'a>(
+/// The words that index the tree, and no file.
+static TREE: TreeRow<'static> = INDEXED;
+
+/// Runs each row over the indexed tree, and compares the outcome, with every file and these images.
+fn expect_loads(
     rt: &impl Abort,
     alloc: Global,
     failing: Failing,
-    rows: &'a [RowOf<'a>],
-    after: &'a [FileRow<'a>],
+    rows: &[RowOf<'_>],
+    images: &[ImageRow<'_>],
 ) {
     let object = object_of_two(rt, alloc);
     let files = files_of(object.as_bytes());
-    let tree = IndexedRow {
-        name: "",
-        modules: &[],
+    let tree = TreeRow {
         files: files.as_slice(),
         failing,
-        first: INDEX,
         rows,
-        after,
+        images,
+        ..TREE
     };
-    expect_indexed(rt, alloc, &tree);
-}
-
-/// Checks that both images are put, whole; and that the first stays if the second can't be put.
-fn expect_images(rt: &impl Abort, alloc: Global) {
-    let own = image(alloc, 8192, &OWN).expect(rt, "an image");
-    let finished = image(alloc, 8192, &FINISHED).expect(rt, "an image");
-    let own = FileRow {
-        path: "/r/img/p.img",
-        bytes: own.as_slice(),
-    };
-    let finished = FileRow {
-        path: "/r/img/p.params.img",
-        bytes: finished.as_slice(),
-    };
-    expect(rt, alloc, Failing::Nothing, &PUT, &[own, finished]);
-    let second = Failing::Call(CallKind::Replace, REPLACED + 1);
-    expect(rt, alloc, second, &PUT_ONCE, &[own]);
+    run_tree(alloc, &tree).expect(rt, "loads");
 }
 
 #[test]
 fn parameters_are_written(rt: HostRuntime) {
     let alloc = rt.alloc();
-    expect(&rt, alloc, Failing::Nothing, &LOADS, &[]);
-    expect(&rt, alloc, Failing::Nothing, &LOADS_OF_TWO, &[]);
-    expect(&rt, alloc, Failing::Nothing, &NO_LOADS, &[]);
-    expect_images(&rt, alloc);
+    expect_loads(&rt, alloc, Failing::Nothing, &LOADS, &[]);
+    expect_loads(&rt, alloc, Failing::Nothing, &LOADS_OF_TWO, &[]);
+    expect_loads(&rt, alloc, Failing::Nothing, &NO_LOADS, &[]);
+    // Both images are put, whole; and the first stays if the second can't be put.
+    expect_loads(&rt, alloc, Failing::Nothing, &PUT, &IMAGES);
+    let second = Failing::Call(CallKind::Replace, REPLACED + 1);
+    expect_loads(&rt, alloc, second, &PUT_ONCE, &IMAGES[..1]);
 }

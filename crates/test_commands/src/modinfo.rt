@@ -1,13 +1,14 @@
 // Modules that are shown by their paths.
-use crate::runs::{expect_last, expect_over, run_words, same_seen};
 use outside_calls::CallKind;
 use std::alloc::Global;
 use std::process::Abort;
-use test_objects::{LICENSE_OBJECT, NO_MORE, SheetRow};
-use test_rows::{Failing, FileRow, Objects, Row, RowOf, USAGE, path_in};
+use test_objects::{EMPTY_SHEET, LICENSE_OBJECT, NO_MORE, SheetRow};
+use test_rows::{
+    Failing, FileRow, ModuleRow, PLAIN, Row, TreeRow, USAGE, image, run_tree, run_trees,
+};
 
 /// A module with two parameters, one of them without a text.
-static PARAMETERS: SheetRow = SheetRow {
+const PARAMETERS: SheetRow = SheetRow {
     texts: &[
         b"license=GPL",
         b"parm=depth:how deep",
@@ -15,19 +16,19 @@ static PARAMETERS: SheetRow = SheetRow {
         b"parmtype=raw:bool",
         b"alias=fs-x",
     ],
-    versions: &[],
-    exports: &[],
-    needs: &[],
-    places: &[],
+    ..EMPTY_SHEET
 };
 
 /// A module with empty texts and one that is only a key.
-static LONE_KEY: SheetRow = SheetRow {
+const LONE_KEY: SheetRow = SheetRow {
     texts: &[b"license=GPL", b"", b"", b"lone", b"author=A"],
-    versions: &[],
-    exports: &[],
-    needs: &[],
-    places: &[],
+    ..EMPTY_SHEET
+};
+
+/// A module with a license.
+const LICENSED: SheetRow = SheetRow {
+    texts: &[b"license=GPL"],
+    ..EMPTY_SHEET
 };
 
 /// What is shown of modules by their paths.
@@ -118,146 +119,141 @@ static BY_PATH: [Row; 25] = [
     ("modinfo -- -F", 1, "", "kmod: no file -F\n"),
 ];
 
-/// Words that aren't understood.
-static NOT_UNDERSTOOD: [&str; 24] = [
-    "",
-    " ",
-    "modprobe",
-    "modinf /m/a.ko",
-    "modinfo",
-    "modinfo ",
-    "modinfo -l -l /m/a.ko",
-    "modinfo -ll /m/a.ko",
-    "modinfo -l -p /m/a.ko",
-    "modinfo -n --field=license /m/a.ko",
-    "modinfo -0 --null /m/a.ko",
-    "modinfo -F -x /m/a.ko",
-    "modinfo -F  /m/a.ko",
-    "modinfo --field= /m/a.ko",
-    "modinfo -F license",
-    "modinfo -b /r /m/a.ko",
-    "modinfo -k 6/1 a",
-    "modinfo -k / a",
-    "modinfo -k -6 a",
-    "modinfo -k 6.1.0 -b  a",
-    "modinfo -k 6.1.0 -k 6.2.0 a",
-    "modinfo -x /m/a.ko",
-    "modinfo --lic /m/a.ko",
-    "modinfo --help",
-];
-
-/// The module at the first path.
-const A: FileRow<'static> = FileRow {
-    path: "/m/a.ko",
-    bytes: &LICENSE_OBJECT,
+/// One module.
+const ONE: TreeRow<'static> = TreeRow {
+    modules: &[("/m/a.ko", &LICENSED, &NO_MORE)],
+    ..PLAIN
 };
 
-/// Puts the modules at paths.
-fn put_modules(rt: &impl Abort, alloc: Global, objects: &mut Objects) {
-    let cut = FileRow {
-        path: "/m/cut.ko",
-        bytes: &LICENSE_OBJECT[..287],
-    };
-    objects.put_files(alloc, &[A, cut]).expect(rt, "files");
-    let sheet = (&PARAMETERS, &NO_MORE);
-    let put = objects.put_object(alloc, (b"/m", "p.ko"), sheet);
-    put.expect(rt, "a module");
-    let sheet = (&LONE_KEY, &NO_MORE);
-    let put = objects.put_object(alloc, (b"/m", "lone.ko"), sheet);
-    put.expect(rt, "a module");
-}
-
-/// Runs a row over the modules. No file is changed.
-fn expect_shown(rt: &impl Abort, alloc: Global, row: Row) {
-    let (words, ..) = row;
-    let mut objects = Objects::new(alloc).expect(rt, "objects");
-    put_modules(rt, alloc, &mut objects);
-    expect_last(rt, alloc, objects, row, words);
-}
-
-/// Runs a row over one module while something fails. No file is changed.
-fn expect_one(rt: &impl Abort, alloc: Global, failing: Failing, row: RowOf<'_>) {
-    expect_over(rt, alloc, &[A], failing, row);
-}
+/// Words that aren't understood.
+static NOT_UNDERSTOOD: TreeRow<'static> = TreeRow {
+    rows: &[
+        ("", 2, "", USAGE),
+        (" ", 2, "", USAGE),
+        ("modprobe", 2, "", USAGE),
+        ("modinf /m/a.ko", 2, "", USAGE),
+        ("modinfo", 2, "", USAGE),
+        ("modinfo ", 2, "", USAGE),
+        ("modinfo -l -l /m/a.ko", 2, "", USAGE),
+        ("modinfo -ll /m/a.ko", 2, "", USAGE),
+        ("modinfo -l -p /m/a.ko", 2, "", USAGE),
+        ("modinfo -n --field=license /m/a.ko", 2, "", USAGE),
+        ("modinfo -0 --null /m/a.ko", 2, "", USAGE),
+        ("modinfo -F -x /m/a.ko", 2, "", USAGE),
+        ("modinfo -F  /m/a.ko", 2, "", USAGE),
+        ("modinfo --field= /m/a.ko", 2, "", USAGE),
+        ("modinfo -F license", 2, "", USAGE),
+        ("modinfo -b /r /m/a.ko", 2, "", USAGE),
+        ("modinfo -k 6/1 a", 2, "", USAGE),
+        ("modinfo -k / a", 2, "", USAGE),
+        ("modinfo -k -6 a", 2, "", USAGE),
+        ("modinfo -k 6.1.0 -b  a", 2, "", USAGE),
+        ("modinfo -k 6.1.0 -k 6.2.0 a", 2, "", USAGE),
+        ("modinfo -x /m/a.ko", 2, "", USAGE),
+        ("modinfo --lic /m/a.ko", 2, "", USAGE),
+        ("modinfo --help", 2, "", USAGE),
+    ],
+    ..ONE
+};
 
 /// What fails while modules are shown, and the row then. The first module is printed before the
 /// second is read. If the line of a refusal can't be written there is none.
-static FAILING: [(Failing, Row); 5] = [
-    (
-        Failing::Call(CallKind::Read, 0),
-        (
+static FAILING: [TreeRow<'static>; 5] = [
+    TreeRow {
+        failing: Failing::Call(CallKind::Read, 0),
+        rows: &[(
             "modinfo -F license /m/a.ko",
             3,
             "",
             "kmod: file fault /m/a.ko\n",
-        ),
-    ),
-    (
-        Failing::Call(CallKind::Read, 1),
-        (
+        )],
+        ..ONE
+    },
+    TreeRow {
+        failing: Failing::Call(CallKind::Read, 1),
+        rows: &[(
             "modinfo -l /m/a.ko /m/a.ko",
             3,
             "GPL\n",
             "kmod: file fault /m/a.ko\n",
-        ),
-    ),
-    (
-        Failing::Write(0),
-        ("modinfo -F license /m/a.ko", 3, "", "kmod: output fault\n"),
-    ),
-    (
-        Failing::Write(1),
-        (
+        )],
+        ..ONE
+    },
+    TreeRow {
+        failing: Failing::Write(0),
+        rows: &[("modinfo -F license /m/a.ko", 3, "", "kmod: output fault\n")],
+        ..ONE
+    },
+    TreeRow {
+        failing: Failing::Write(1),
+        rows: &[(
             "modinfo -l /m/a.ko /m/a.ko",
             3,
             "GPL\n",
             "kmod: output fault\n",
-        ),
-    ),
-    (
-        Failing::Line(0),
-        ("modinfo -F license /m/none.ko", 3, "", ""),
-    ),
+        )],
+        ..ONE
+    },
+    TreeRow {
+        failing: Failing::Line(0),
+        rows: &[("modinfo -F license /m/none.ko", 3, "", "")],
+        ..ONE
+    },
 ];
 
-/// Puts a file of so many zeros.
-fn put_zeros(rt: &impl Abort, alloc: Global, objects: &mut Objects, length: usize) {
-    let bytes = vec![in alloc; 0u8; length].expect(rt, "zeros");
-    let path = path_in(alloc, b"/m", b"a.ko").expect(rt, "a path");
-    let put = objects.files.put(&path, bytes.as_slice());
-    put.expect(rt, "a file more");
+/// Modules at paths, beside two that are byte by byte.
+static MODULES: [ModuleRow<'static>; 2] = [
+    ("/m/p.ko", &PARAMETERS, &NO_MORE),
+    ("/m/lone.ko", &LONE_KEY, &NO_MORE),
+];
+
+/// Shows modules by their paths. No file is changed.
+fn expect_shown(rt: &impl Abort, alloc: Global) {
+    let whole = FileRow {
+        path: "/m/a.ko",
+        bytes: &LICENSE_OBJECT,
+    };
+    let cut = FileRow {
+        path: "/m/cut.ko",
+        bytes: &LICENSE_OBJECT[..287],
+    };
+    let tree = TreeRow {
+        modules: &MODULES,
+        files: &[whole, cut],
+        rows: &BY_PATH,
+        ..PLAIN
+    };
+    run_tree(alloc, &tree).expect(rt, "modules by their paths");
 }
 
 /// What is said of a file past the limit.
-static TOO_LARGE: Row = (
+static TOO_LARGE: [Row; 1] = [(
     "modinfo -F license /m/a.ko",
     1,
     "",
     "kmod: /m/a.ko: too large\n",
-);
+)];
+
+/// Runs words over a file past the limit.
+fn expect_too_large(rt: &impl Abort, alloc: Global) {
+    let zeros = image(alloc, 67_108_865, &[]).expect(rt, "zeros");
+    let tree = TreeRow {
+        files: &[FileRow {
+            path: "/m/a.ko",
+            bytes: zeros.as_slice(),
+        }],
+        rows: &TOO_LARGE,
+        ..PLAIN
+    };
+    run_tree(alloc, &tree).expect(rt, "a file past the limit");
+}
 
 #[test]
 fn modules_are_shown_by_their_paths(rt: HostRuntime) {
     let alloc = rt.alloc();
-    for row in &BY_PATH {
-        expect_shown(&rt, alloc, *row);
-    }
-    for words in &NOT_UNDERSTOOD {
-        expect_one(&rt, alloc, Failing::Nothing, (words, 2, "", USAGE));
-    }
-    for (failing, row) in &FAILING {
-        expect_one(&rt, alloc, *failing, *row);
-    }
-}
-
-/// Runs words over a file past the limit.
-fn expect_too_large(rt: &impl Abort, alloc: Global) {
-    let (words, ..) = TOO_LARGE;
-    let mut objects = Objects::new(alloc).expect(rt, "objects");
-    put_zeros(rt, alloc, &mut objects, 67_108_865);
-    run_words(rt, alloc, &mut objects, words);
-    same_seen(rt, &objects, TOO_LARGE, words);
-    drop(objects);
+    expect_shown(&rt, alloc);
+    run_tree(alloc, &NOT_UNDERSTOOD).expect(&rt, "words that aren't understood");
+    run_trees(alloc, &FAILING).expect(&rt, "calls that fail");
 }
 
 #[test]

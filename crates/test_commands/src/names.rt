@@ -1,20 +1,19 @@
 // What names stand for in trees that depmod indexed.
-use crate::runs::expect_trees;
 use crate::sheets::{ALIASES, USB};
 use test_objects::NO_MORE;
-use test_rows::{FileRow, INDEXED, IndexedRow, SYMVERS, TWO};
+use test_rows::{FileRow, INDEXED, SYMVERS, TWO, TreeRow, run_trees};
 
 /// Trees, and what names stand for in each.
-static TREES: [IndexedRow<'static>; 3] = [
+static TREES: [TreeRow<'static>; 3] = [
     // A symbol stands for the module that exports it.
-    IndexedRow {
+    TreeRow {
         name: "a symbol",
         modules: TWO,
         rows: &[("modprobe -d /r -S 6.1.0 -R symbol:fa", 0, "a\n", "")],
         ..INDEXED
     },
     // A pattern of a module matches or doesn't; one without a normal form isn't there.
-    IndexedRow {
+    TreeRow {
         name: "a pattern",
         modules: &[("kernel/x.ko", &ALIASES, &NO_MORE)],
         rows: &[
@@ -35,7 +34,7 @@ static TREES: [IndexedRow<'static>; 3] = [
         ..INDEXED
     },
     // A blacklisted module isn't found by an alias that modules state, and with `-b` by no name.
-    IndexedRow {
+    TreeRow {
         name: "a blacklisted module",
         modules: &[
             ("kernel/u1.ko", &USB, &NO_MORE),
@@ -60,5 +59,5 @@ static TREES: [IndexedRow<'static>; 3] = [
 
 #[test]
 fn names_stand_for_modules(rt: HostRuntime) {
-    expect_trees(&rt, rt.alloc(), &TREES);
+    run_trees(rt.alloc(), &TREES).expect(&rt, "names");
 }

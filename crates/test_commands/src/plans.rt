@@ -1,11 +1,10 @@
 // Plans, and what is in the way of one.
-use crate::runs::expect_trees;
 use crate::sheets::ASKS_FOR_MORE;
 use test_objects::{
     FREE, GIVES_ALONE, GIVES_VERSION_1, GPL_ONLY, IMPORTS, IN_SPACE, MAY_NEED_VERSION_2, NEEDS,
     NEEDS_NOSUCH, NO_MORE, NOTHING,
 };
-use test_rows::{FileRow, INDEXED, IndexedRow, ModuleRow, SYMVERS, SYSTEM_MAP, TWO};
+use test_rows::{FileRow, INDEXED, ModuleRow, SYMVERS, SYSTEM_MAP, TWO, TreeRow, run_trees};
 
 /// Two modules that need nothing.
 const ALONE: &[ModuleRow<'static>] = &[
@@ -14,9 +13,9 @@ const ALONE: &[ModuleRow<'static>] = &[
 ];
 
 /// Trees, and what is planned over each.
-static TREES: [IndexedRow<'static>; 11] = [
+static TREES: [TreeRow<'static>; 11] = [
     // A module comes after what it needs, with its own parameters and the configuration's.
-    IndexedRow {
+    TreeRow {
         name: "a plan of two modules",
         modules: TWO,
         files: &[
@@ -36,7 +35,7 @@ static TREES: [IndexedRow<'static>; 11] = [
         ..INDEXED
     },
     // A configuration that isn't understood.
-    IndexedRow {
+    TreeRow {
         name: "a bad line of the configuration",
         modules: TWO,
         files: &[
@@ -55,7 +54,7 @@ static TREES: [IndexedRow<'static>; 11] = [
         ..INDEXED
     },
     // What is loaded already is left out, except by `-D`.
-    IndexedRow {
+    TreeRow {
         name: "loaded modules are left out",
         modules: TWO,
         files: &[
@@ -85,7 +84,7 @@ static TREES: [IndexedRow<'static>; 11] = [
     },
     // A command replaces its module; `-i` ignores only the commands of requested modules; a load
     // runs none.
-    IndexedRow {
+    TreeRow {
         name: "commands stand for modules",
         modules: TWO,
         files: &[
@@ -125,7 +124,7 @@ static TREES: [IndexedRow<'static>; 11] = [
         ..INDEXED
     },
     // Two modules export one symbol: that is an obstacle if both are planned.
-    IndexedRow {
+    TreeRow {
         name: "two modules export one symbol",
         modules: &[
             ("kernel/a.ko", &GIVES_ALONE, &NO_MORE),
@@ -156,7 +155,7 @@ static TREES: [IndexedRow<'static>; 11] = [
         ..INDEXED
     },
     // Needs that nobody meets, or in another version.
-    IndexedRow {
+    TreeRow {
         name: "needs that are not met",
         modules: &[
             ("kernel/n.ko", &NEEDS_NOSUCH, &NO_MORE),
@@ -181,7 +180,7 @@ static TREES: [IndexedRow<'static>; 11] = [
     },
     // Soft dependencies come before and after their module; those that are found nowhere are passed
     // over.
-    IndexedRow {
+    TreeRow {
         name: "soft dependencies are planned",
         modules: &[
             ("kernel/avail.ko", &NOTHING, &NO_MORE),
@@ -201,7 +200,7 @@ static TREES: [IndexedRow<'static>; 11] = [
         ..INDEXED
     },
     // Soft dependencies that lead in a cycle.
-    IndexedRow {
+    TreeRow {
         name: "a cycle of soft dependencies",
         modules: ALONE,
         files: &[
@@ -220,7 +219,7 @@ static TREES: [IndexedRow<'static>; 11] = [
         ..INDEXED
     },
     // What is built into the kernel, and what is nowhere.
-    IndexedRow {
+    TreeRow {
         name: "built in and unknown names",
         modules: ALONE,
         files: &[
@@ -243,7 +242,7 @@ static TREES: [IndexedRow<'static>; 11] = [
     },
     // A GPL-only export isn't seen by a module without a free license, which isn't planned; one
     // with such a license is.
-    IndexedRow {
+    TreeRow {
         name: "a GPL-only export is in the way",
         modules: &[
             ("kernel/a.ko", &GIVES_ALONE, &GPL_ONLY),
@@ -268,7 +267,7 @@ static TREES: [IndexedRow<'static>; 11] = [
         ..INDEXED
     },
     // An export in a namespace may not be used by a module that doesn't import it.
-    IndexedRow {
+    TreeRow {
         name: "a namespace is in the way",
         modules: &[
             ("kernel/a.ko", &GIVES_ALONE, &IN_SPACE),
@@ -296,5 +295,5 @@ static TREES: [IndexedRow<'static>; 11] = [
 
 #[test]
 fn modules_are_planned_or_not(rt: HostRuntime) {
-    expect_trees(&rt, rt.alloc(), &TREES);
+    run_trees(rt.alloc(), &TREES).expect(&rt, "plans");
 }

@@ -1,7 +1,6 @@
 // Removals from the modelled machine.
-use crate::runs::expect_indexed;
 use test_objects::{GIVES, NEEDS, NO_MORE, NOTHING};
-use test_rows::{FileRow, INDEXED, IndexedRow, ModuleRow, RowOf, SYMVERS, SYSTEM_MAP};
+use test_rows::{FileRow, INDEXED, ModuleRow, RowOf, SYMVERS, SYSTEM_MAP, TreeRow, run_tree};
 
 /// Three modules. `b` needs `a`, and `c` has nothing to do with them.
 const THREE: &[ModuleRow<'static>] = &[
@@ -191,7 +190,7 @@ const ROWS: &[RowOf<'static>] = &[
 ];
 
 /// The tree of the three modules.
-static TREE: IndexedRow<'static> = IndexedRow {
+static TREE: TreeRow<'static> = TreeRow {
     modules: THREE,
     files: FILES,
     rows: ROWS,
@@ -200,5 +199,5 @@ static TREE: IndexedRow<'static> = IndexedRow {
 
 #[test]
 fn modules_are_removed_or_refused(rt: HostRuntime) {
-    expect_indexed(&rt, rt.alloc(), &TREE);
+    run_tree(rt.alloc(), &TREE).expect(&rt, "removals");
 }

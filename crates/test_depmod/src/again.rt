@@ -1,51 +1,63 @@
 // Trees that are changed: indexed again, and with a module that is damaged.
-use crate::expect::{DONE, IndexRow, REFUSED, expect_again, objects_of};
-use crate::indexes::Index;
+use crate::indexes::{TWO_MODULES, WITH_C};
+use crate::rows::{DONE, KEPT};
 use crate::sheets::{GIVES_FC, GIVES_LONG, LONG_VERSION_17, NEEDS_LONG};
 use outside_calls::CallKind;
 use std::alloc::Global;
 use std::process::Abort;
 use test_objects::{NO_MORE, object_with};
-use test_rows::{FOLDER, Failing, ModuleRow, TWO, path_in};
+use test_rows::{
+    Failing, FileRow, INDEX, ModuleRow, Objects, Row, SYMVERS, TWO, TreeRow, run_next, run_over,
+    run_tree,
+};
 
 /// Two modules that are indexed for the first time. The third replacement after that fails.
-static FIRST: IndexRow<'static> = IndexRow {
+static FIRST: TreeRow<'static> = TreeRow {
     name: "the first index",
     modules: TWO,
     is_old: false,
     failing: Failing::Call(CallKind::Replace, 11),
-    index: Index::TwoModules,
+    index: &TWO_MODULES,
     ..DONE
 };
 
+/// What comes out first.
+static FIRST_ROW: Row = (INDEX, 0, "", "");
+
 /// The same with `c`: two files are new, and seven are as the first index left them.
-static SECOND: IndexRow<'static> = IndexRow {
+static SECOND: TreeRow<'static> = TreeRow {
     name: "the second index",
-    status: 3,
-    err: "kmod: file fault /r/lib/modules/6.1.0/modules.alias\n",
-    index: Index::WithC,
+    index: &WITH_C,
     replaced: 2,
     ..DONE
 };
+
+/// What comes out then.
+static SECOND_ROW: Row = (
+    INDEX,
+    3,
+    "",
+    "kmod: file fault /r/lib/modules/6.1.0/modules.alias\n",
+);
 
 /// The module that is added.
 static C: [ModuleRow<'static>; 1] = [("kernel/c.ko", &GIVES_FC, &NO_MORE)];
 
 /// Indexes a tree twice, the second time with one module more.
 fn expect_second(rt: &impl Abort, alloc: Global) {
-    let mut objects = objects_of(rt, alloc, &FIRST);
-    expect_again(rt, alloc, &mut objects, &FIRST);
+    let mut objects = Objects::new(alloc).expect(rt, "objects");
+    run_over(alloc, &mut objects, &FIRST, FIRST_ROW).expect(rt, "the first index");
     objects.put_modules(alloc, &C).expect(rt, "a module");
-    expect_again(rt, alloc, &mut objects, &SECOND);
+    run_next(alloc, &mut objects, &SECOND, SECOND_ROW).expect(rt, "the second index");
     drop(objects);
 }
 
 /// The names of versions in the extended form have no end.
-static CUT: IndexRow<'static> = IndexRow {
+const CUT: TreeRow<'static> = TreeRow {
     name: "names of versions without an end",
     modules: &[("kernel/a.ko", &GIVES_LONG, &NO_MORE)],
-    err: "kmod: kernel/b.ko: bad versions\n",
-    ..REFUSED
+    rows: &[(INDEX, 1, "", "kmod: kernel/b.ko: bad versions\n")],
+    ..KEPT
 };
 
 /// Returns where the last run of 60 or more bytes `x` ends, in a file that has other bytes after
@@ -84,12 +96,18 @@ fn cut_last_name(rt: &impl Abort, bytes: &mut Vec<u8>) {
 
 /// Indexes a tree in which a module has a name of a version without its NUL.
 fn expect_bad_versions(rt: &impl Abort, alloc: Global) {
-    let mut objects = objects_of(rt, alloc, &CUT);
     let bytes = cut_object(rt, alloc);
-    let path = path_in(alloc, FOLDER, b"kernel/b.ko").expect(rt, "a path");
-    objects.put(&path, bytes.as_slice()).expect(rt, "a file");
-    expect_again(rt, alloc, &mut objects, &CUT);
-    drop(objects);
+    let tree = TreeRow {
+        files: &[
+            SYMVERS,
+            FileRow {
+                path: "/r/lib/modules/6.1.0/kernel/b.ko",
+                bytes: bytes.as_slice(),
+            },
+        ],
+        ..CUT
+    };
+    run_tree(alloc, &tree).expect(rt, "a module that is cut");
 }
 
 #[test]

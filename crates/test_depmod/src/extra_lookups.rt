@@ -1,9 +1,8 @@
 // What the two commands answer over the files that a depmod left, and over bad ones.
 use crate::extra_trees::{ONE_NODE, TTY, TWO_BUILT_IN, TWO_NODES};
-use crate::runs::{expect_over, expect_trees};
-use std::alloc::Global;
-use std::process::Abort;
-use test_rows::{EXTRA, Failing, FileRow, INDEXED, IndexedRow, RowOf, SYMVERS, USAGE};
+use test_rows::{
+    EXTRA, Failing, FileRow, INDEXED, PLAIN, RowOf, SYMVERS, TreeRow, USAGE, run_trees,
+};
 
 /// Lookups over a module with a device node, and a built-in one with an alias.
 const ONE: &[RowOf<'static>] = &[
@@ -81,61 +80,146 @@ const TWO: &[RowOf<'static>] = &[
     ),
 ];
 
-/// Indexes, and the line on err.
-static BAD_INDEXES: [(&[u8], &str); 2] = [
-    (
-        b"",
-        "kmod: /r/lib/modules/6.1.0/modules.builtin.alias.bin: bad index magic\n",
-    ),
-    (
-        b"\xb0\x07\xf4\x57\x00\x02\x00\x01\x20\x00\x00\x0c\
+/// Indexes that are refused.
+static BAD_INDEXES: [TreeRow<'static>; 2] = [
+    TreeRow {
+        files: &[FileRow {
+            path: "/r/lib/modules/6.1.0/modules.builtin.alias.bin",
+            bytes: b"",
+        }],
+        rows: &[(
+            "builtin-alias -d /r -S 6.1.0 tty-x",
+            1,
+            "",
+            "kmod: /r/lib/modules/6.1.0/modules.builtin.alias.bin: bad index magic\n",
+        )],
+        ..PLAIN
+    },
+    TreeRow {
+        files: &[FileRow {
+            path: "/r/lib/modules/6.1.0/modules.builtin.alias.bin",
+            bytes: b"\xb0\x07\xf4\x57\x00\x02\x00\x01\x20\x00\x00\x0c\
           aa\x40\x00\x00\x12\
           \x00\x00\x00\x01\x00\x00\x00\x00x\0",
-        "kmod: /r/lib/modules/6.1.0/modules.builtin.alias.bin: bad index node at 18\n",
-    ),
+        }],
+        rows: &[(
+            "builtin-alias -d /r -S 6.1.0 tty-x",
+            1,
+            "",
+            "kmod: /r/lib/modules/6.1.0/modules.builtin.alias.bin: bad index node at 18\n",
+        )],
+        ..PLAIN
+    },
 ];
 
-/// Texts of modules.devname, what is printed, and the line on err if one of them is bad.
-static NODE_TEXTS: [(&[u8], &str, &str); 7] = [
-    (b"", "", ""),
-    (b"# x\n\n  \nfuse fuse c10:229", "fuse fuse c10:229\n", ""),
-    (
-        b"fuse fuse c10:229\nfuse  fuse c10:229\n",
-        "",
-        "kmod: /r/lib/modules/6.1.0/modules.devname: bad line 2\n",
-    ),
-    (
-        b"# x\nfuse fuse d10:229\n",
-        "",
-        "kmod: /r/lib/modules/6.1.0/modules.devname: bad line 2\n",
-    ),
-    (
-        b"fuse fuse c010:229\n",
-        "",
-        "kmod: /r/lib/modules/6.1.0/modules.devname: bad line 1\n",
-    ),
-    (
-        b"fuse fuse c10:4294967296\n",
-        "",
-        "kmod: /r/lib/modules/6.1.0/modules.devname: bad line 1\n",
-    ),
-    (
-        b"fuse fuse c10-229\n",
-        "",
-        "kmod: /r/lib/modules/6.1.0/modules.devname: bad line 1\n",
-    ),
+/// Words that print the nodes of a modules.devname.
+const PRINT: &str = "static-nodes -d /r -S 6.1.0 -f devname";
+
+/// Texts of modules.devname, with what is printed, or the line on err if one of them is bad. The
+/// last can't be printed.
+static NODE_TEXTS: [TreeRow<'static>; 8] = [
+    TreeRow {
+        files: &[FileRow {
+            path: "/r/lib/modules/6.1.0/modules.devname",
+            bytes: b"",
+        }],
+        rows: &[(PRINT, 0, "", "")],
+        ..PLAIN
+    },
+    TreeRow {
+        files: &[FileRow {
+            path: "/r/lib/modules/6.1.0/modules.devname",
+            bytes: b"# x\n\n  \nfuse fuse c10:229",
+        }],
+        rows: &[(PRINT, 0, "fuse fuse c10:229\n", "")],
+        ..PLAIN
+    },
+    TreeRow {
+        files: &[FileRow {
+            path: "/r/lib/modules/6.1.0/modules.devname",
+            bytes: b"fuse fuse c10:229\nfuse  fuse c10:229\n",
+        }],
+        rows: &[(
+            PRINT,
+            1,
+            "",
+            "kmod: /r/lib/modules/6.1.0/modules.devname: bad line 2\n",
+        )],
+        ..PLAIN
+    },
+    TreeRow {
+        files: &[FileRow {
+            path: "/r/lib/modules/6.1.0/modules.devname",
+            bytes: b"# x\nfuse fuse d10:229\n",
+        }],
+        rows: &[(
+            PRINT,
+            1,
+            "",
+            "kmod: /r/lib/modules/6.1.0/modules.devname: bad line 2\n",
+        )],
+        ..PLAIN
+    },
+    TreeRow {
+        files: &[FileRow {
+            path: "/r/lib/modules/6.1.0/modules.devname",
+            bytes: b"fuse fuse c010:229\n",
+        }],
+        rows: &[(
+            PRINT,
+            1,
+            "",
+            "kmod: /r/lib/modules/6.1.0/modules.devname: bad line 1\n",
+        )],
+        ..PLAIN
+    },
+    TreeRow {
+        files: &[FileRow {
+            path: "/r/lib/modules/6.1.0/modules.devname",
+            bytes: b"fuse fuse c10:4294967296\n",
+        }],
+        rows: &[(
+            PRINT,
+            1,
+            "",
+            "kmod: /r/lib/modules/6.1.0/modules.devname: bad line 1\n",
+        )],
+        ..PLAIN
+    },
+    TreeRow {
+        files: &[FileRow {
+            path: "/r/lib/modules/6.1.0/modules.devname",
+            bytes: b"fuse fuse c10-229\n",
+        }],
+        rows: &[(
+            PRINT,
+            1,
+            "",
+            "kmod: /r/lib/modules/6.1.0/modules.devname: bad line 1\n",
+        )],
+        ..PLAIN
+    },
+    TreeRow {
+        files: &[FileRow {
+            path: "/r/lib/modules/6.1.0/modules.devname",
+            bytes: b"fuse fuse c10:229\n",
+        }],
+        failing: Failing::Write(0),
+        rows: &[(PRINT, 3, "", "kmod: output fault\n")],
+        ..PLAIN
+    },
 ];
 
 /// The trees of these lookups.
-static TREES: [IndexedRow<'static>; 2] = [
-    IndexedRow {
+static TREES: [TreeRow<'static>; 2] = [
+    TreeRow {
         modules: ONE_NODE,
         files: &[SYMVERS, TTY],
         first: EXTRA,
         rows: ONE,
         ..INDEXED
     },
-    IndexedRow {
+    TreeRow {
         modules: TWO_NODES,
         files: &[SYMVERS, TWO_BUILT_IN],
         first: EXTRA,
@@ -144,46 +228,10 @@ static TREES: [IndexedRow<'static>; 2] = [
     },
 ];
 
-/// Looks up a name in an index that is refused.
-fn expect_bad_index(rt: &impl Abort, alloc: Global, bytes: &'static [u8], err: &str) {
-    let file = FileRow {
-        path: "/r/lib/modules/6.1.0/modules.builtin.alias.bin",
-        bytes,
-    };
-    let row = ("builtin-alias -d /r -S 6.1.0 tty-x", 1, "", err);
-    expect_over(rt, alloc, &[file], Failing::Nothing, row);
-}
-
-/// Prints the nodes of a modules.devname while something fails, and compares the outcome.
-fn expect_nodes(
-    rt: &impl Abort,
-    alloc: Global,
-    bytes: &'static [u8],
-    failing: Failing,
-    (status, out, err): (u8, &str, &str),
-) {
-    let file = FileRow {
-        path: "/r/lib/modules/6.1.0/modules.devname",
-        bytes,
-    };
-    let row = ("static-nodes -d /r -S 6.1.0 -f devname", status, out, err);
-    expect_over(rt, alloc, &[file], failing, row);
-}
-
-/// A modules.devname of one node.
-static FUSE_TEXT: &[u8] = b"fuse fuse c10:229\n";
-
 #[test]
 fn names_and_nodes_are_found(rt: HostRuntime) {
     let alloc = rt.alloc();
-    expect_trees(&rt, alloc, &TREES);
-    for (bytes, err) in &BAD_INDEXES {
-        expect_bad_index(&rt, alloc, bytes, err);
-    }
-    for (bytes, out, err) in &NODE_TEXTS {
-        let status = if err.is_empty() { 0 } else { 1 };
-        expect_nodes(&rt, alloc, bytes, Failing::Nothing, (status, out, err));
-    }
-    let want = (3, "", "kmod: output fault\n");
-    expect_nodes(&rt, alloc, FUSE_TEXT, Failing::Write(0), want);
+    run_trees(alloc, &TREES).expect(&rt, "lookups");
+    run_trees(alloc, &BAD_INDEXES).expect(&rt, "bad indexes");
+    run_trees(alloc, &NODE_TEXTS).expect(&rt, "texts of nodes");
 }

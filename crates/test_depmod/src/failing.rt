@@ -1,200 +1,294 @@
-// Each call of a depmod of two modules fails in turn: what was done before stays, and nothing else
-// is done.
-use crate::expect::{DONE, IndexRow, expect_index, expect_rows};
-use crate::indexes::Index;
+// Calls on files and writes that fail, each in turn. The files that were replaced before are new, and
+// all others are as they were.
+use crate::indexes::{PRINTK_MISSING, TWO_MODULES};
+use crate::rows::{DONE, KEPT};
 use outside_calls::CallKind;
-use std::alloc::Global;
-use std::process::Abort;
-use test_rows::{Failing, FileRow, TWO};
+use test_rows::{Failing, FileRow, INDEX, TWO, TreeRow, run_trees};
 
-/// A call on files that fails: its kind and its number, the line on err, and how many files were
-/// replaced before.
-type CallRow = (CallKind, u8, &'static str, usize);
-
-/// The calls in their order. The last run of each kind has no call of that number, and is done.
-static CALLS: [CallRow; 24] = [
-    (CallKind::ListConf, 0, "kmod: file fault /etc/depmod.d\n", 0),
-    (CallKind::ListConf, 1, "kmod: file fault /run/depmod.d\n", 0),
-    (
-        CallKind::ListConf,
-        2,
-        "kmod: file fault /usr/local/lib/depmod.d\n",
-        0,
-    ),
-    (
-        CallKind::ListConf,
-        3,
-        "kmod: file fault /usr/lib/depmod.d\n",
-        0,
-    ),
-    (CallKind::ListConf, 4, "kmod: file fault /lib/depmod.d\n", 0),
-    (
-        CallKind::ListTree,
-        0,
-        "kmod: file fault /r/lib/modules/6.1.0\n",
-        0,
-    ),
-    (
-        CallKind::Read,
-        0,
-        "kmod: file fault /r/lib/modules/6.1.0/modules.order\n",
-        0,
-    ),
-    (CallKind::Read, 1, "kmod: file fault /r/Module.symvers\n", 0),
-    (
-        CallKind::Read,
-        2,
-        "kmod: file fault /r/lib/modules/6.1.0/kernel/a.ko\n",
-        0,
-    ),
-    (
-        CallKind::Read,
-        3,
-        "kmod: file fault /r/lib/modules/6.1.0/kernel/b.ko\n",
-        0,
-    ),
-    (
-        CallKind::Read,
-        4,
-        "kmod: file fault /r/lib/modules/6.1.0/modules.builtin\n",
-        0,
-    ),
-    (
-        CallKind::Replace,
-        0,
-        "kmod: file fault /r/lib/modules/6.1.0/modules.dep\n",
-        0,
-    ),
-    (
-        CallKind::Replace,
-        1,
-        "kmod: file fault /r/lib/modules/6.1.0/modules.dep.bin\n",
-        1,
-    ),
-    (
-        CallKind::Replace,
-        2,
-        "kmod: file fault /r/lib/modules/6.1.0/modules.alias\n",
-        2,
-    ),
-    (
-        CallKind::Replace,
-        3,
-        "kmod: file fault /r/lib/modules/6.1.0/modules.alias.bin\n",
-        3,
-    ),
-    (
-        CallKind::Replace,
-        4,
-        "kmod: file fault /r/lib/modules/6.1.0/modules.softdep\n",
-        4,
-    ),
-    (
-        CallKind::Replace,
-        5,
-        "kmod: file fault /r/lib/modules/6.1.0/modules.symbols\n",
-        5,
-    ),
-    (
-        CallKind::Replace,
-        6,
-        "kmod: file fault /r/lib/modules/6.1.0/modules.symbols.bin\n",
-        6,
-    ),
-    (
-        CallKind::Replace,
-        7,
-        "kmod: file fault /r/lib/modules/6.1.0/modules.builtin.bin\n",
-        7,
-    ),
-    (
-        CallKind::Replace,
-        8,
-        "kmod: file fault /r/lib/modules/6.1.0/modules.unmet\n",
-        8,
-    ),
-    (CallKind::ListConf, 5, "", 9),
-    (CallKind::ListTree, 1, "", 9),
-    (CallKind::Read, 5, "", 9),
-    (CallKind::Replace, 9, "", 9),
-];
-
-/// The tree, and the outcome if nothing fails.
-static TREE: IndexRow<'static> = IndexRow {
+/// The tree, where no file is replaced.
+const KEPT_TWO: TreeRow<'static> = TreeRow {
     name: "calls that fail",
     modules: TWO,
-    index: Index::TwoModules,
+    ..KEPT
+};
+
+/// The tree, where all files are replaced.
+const NEW: TreeRow<'static> = TreeRow {
+    name: "calls that fail",
+    modules: TWO,
+    index: &TWO_MODULES,
     ..DONE
 };
 
-/// Makes a call fail. The files that were replaced before are new.
-fn expect_call(rt: &impl Abort, alloc: Global, call: CallRow) {
-    let (kind, number, err, replaced) = call;
-    let row = IndexRow {
-        failing: Failing::Call(kind, number),
-        status: if err.is_empty() { 0 } else { 3 },
-        err,
-        replaced,
-        ..TREE
-    };
-    expect_index(rt, alloc, &row);
-}
+/// The calls up to the first replacement, in their order: those of each kind are counted on their
+/// own.
+static CALLS: [TreeRow<'static>; 12] = [
+    TreeRow {
+        failing: Failing::Call(CallKind::ListConf, 0),
+        rows: &[(INDEX, 3, "", "kmod: file fault /etc/depmod.d\n")],
+        ..KEPT_TWO
+    },
+    TreeRow {
+        failing: Failing::Call(CallKind::ListConf, 1),
+        rows: &[(INDEX, 3, "", "kmod: file fault /run/depmod.d\n")],
+        ..KEPT_TWO
+    },
+    TreeRow {
+        failing: Failing::Call(CallKind::ListConf, 2),
+        rows: &[(INDEX, 3, "", "kmod: file fault /usr/local/lib/depmod.d\n")],
+        ..KEPT_TWO
+    },
+    TreeRow {
+        failing: Failing::Call(CallKind::ListConf, 3),
+        rows: &[(INDEX, 3, "", "kmod: file fault /usr/lib/depmod.d\n")],
+        ..KEPT_TWO
+    },
+    TreeRow {
+        failing: Failing::Call(CallKind::ListConf, 4),
+        rows: &[(INDEX, 3, "", "kmod: file fault /lib/depmod.d\n")],
+        ..KEPT_TWO
+    },
+    TreeRow {
+        failing: Failing::Call(CallKind::ListTree, 0),
+        rows: &[(INDEX, 3, "", "kmod: file fault /r/lib/modules/6.1.0\n")],
+        ..KEPT_TWO
+    },
+    TreeRow {
+        failing: Failing::Call(CallKind::Read, 0),
+        rows: &[(
+            INDEX,
+            3,
+            "",
+            "kmod: file fault /r/lib/modules/6.1.0/modules.order\n",
+        )],
+        ..KEPT_TWO
+    },
+    TreeRow {
+        failing: Failing::Call(CallKind::Read, 1),
+        rows: &[(INDEX, 3, "", "kmod: file fault /r/Module.symvers\n")],
+        ..KEPT_TWO
+    },
+    TreeRow {
+        failing: Failing::Call(CallKind::Read, 2),
+        rows: &[(
+            INDEX,
+            3,
+            "",
+            "kmod: file fault /r/lib/modules/6.1.0/kernel/a.ko\n",
+        )],
+        ..KEPT_TWO
+    },
+    TreeRow {
+        failing: Failing::Call(CallKind::Read, 3),
+        rows: &[(
+            INDEX,
+            3,
+            "",
+            "kmod: file fault /r/lib/modules/6.1.0/kernel/b.ko\n",
+        )],
+        ..KEPT_TWO
+    },
+    TreeRow {
+        failing: Failing::Call(CallKind::Read, 4),
+        rows: &[(
+            INDEX,
+            3,
+            "",
+            "kmod: file fault /r/lib/modules/6.1.0/modules.builtin\n",
+        )],
+        ..KEPT_TWO
+    },
+    TreeRow {
+        failing: Failing::Call(CallKind::Replace, 0),
+        rows: &[(
+            INDEX,
+            3,
+            "",
+            "kmod: file fault /r/lib/modules/6.1.0/modules.dep\n",
+        )],
+        ..KEPT_TWO
+    },
+];
 
-/// The writes to the output of a run with `-n`: their numbers, what was written before, and the
-/// line on err. The last run has no write of that number, and is done.
-static WRITES: [(u8, &str, &str); 5] = [
-    (0, "", "kmod: output fault\n"),
-    (
-        1,
-        "kernel/a.ko:\nkernel/b.ko: kernel/a.ko\n",
-        "kmod: output fault\n",
-    ),
-    (
-        2,
-        "kernel/a.ko:\nkernel/b.ko: kernel/a.ko\n# Aliases extracted from modules themselves.\n",
-        "kmod: output fault\n",
-    ),
-    (
-        3,
-        "kernel/a.ko:\n\
+/// The replacements in their order, with the files that were replaced before. The last run of each
+/// kind has no call of that number, and is done.
+static REPLACEMENTS: [TreeRow<'static>; 12] = [
+    TreeRow {
+        failing: Failing::Call(CallKind::Replace, 1),
+        rows: &[(
+            INDEX,
+            3,
+            "",
+            "kmod: file fault /r/lib/modules/6.1.0/modules.dep.bin\n",
+        )],
+        replaced: 1,
+        ..NEW
+    },
+    TreeRow {
+        failing: Failing::Call(CallKind::Replace, 2),
+        rows: &[(
+            INDEX,
+            3,
+            "",
+            "kmod: file fault /r/lib/modules/6.1.0/modules.alias\n",
+        )],
+        replaced: 2,
+        ..NEW
+    },
+    TreeRow {
+        failing: Failing::Call(CallKind::Replace, 3),
+        rows: &[(
+            INDEX,
+            3,
+            "",
+            "kmod: file fault /r/lib/modules/6.1.0/modules.alias.bin\n",
+        )],
+        replaced: 3,
+        ..NEW
+    },
+    TreeRow {
+        failing: Failing::Call(CallKind::Replace, 4),
+        rows: &[(
+            INDEX,
+            3,
+            "",
+            "kmod: file fault /r/lib/modules/6.1.0/modules.softdep\n",
+        )],
+        replaced: 4,
+        ..NEW
+    },
+    TreeRow {
+        failing: Failing::Call(CallKind::Replace, 5),
+        rows: &[(
+            INDEX,
+            3,
+            "",
+            "kmod: file fault /r/lib/modules/6.1.0/modules.symbols\n",
+        )],
+        replaced: 5,
+        ..NEW
+    },
+    TreeRow {
+        failing: Failing::Call(CallKind::Replace, 6),
+        rows: &[(
+            INDEX,
+            3,
+            "",
+            "kmod: file fault /r/lib/modules/6.1.0/modules.symbols.bin\n",
+        )],
+        replaced: 6,
+        ..NEW
+    },
+    TreeRow {
+        failing: Failing::Call(CallKind::Replace, 7),
+        rows: &[(
+            INDEX,
+            3,
+            "",
+            "kmod: file fault /r/lib/modules/6.1.0/modules.builtin.bin\n",
+        )],
+        replaced: 7,
+        ..NEW
+    },
+    TreeRow {
+        failing: Failing::Call(CallKind::Replace, 8),
+        rows: &[(
+            INDEX,
+            3,
+            "",
+            "kmod: file fault /r/lib/modules/6.1.0/modules.unmet\n",
+        )],
+        replaced: 8,
+        ..NEW
+    },
+    TreeRow {
+        failing: Failing::Call(CallKind::ListConf, 5),
+        rows: &[(INDEX, 0, "", "")],
+        ..NEW
+    },
+    TreeRow {
+        failing: Failing::Call(CallKind::ListTree, 1),
+        rows: &[(INDEX, 0, "", "")],
+        ..NEW
+    },
+    TreeRow {
+        failing: Failing::Call(CallKind::Read, 5),
+        rows: &[(INDEX, 0, "", "")],
+        ..NEW
+    },
+    TreeRow {
+        failing: Failing::Call(CallKind::Replace, 9),
+        rows: &[(INDEX, 0, "", "")],
+        ..NEW
+    },
+];
+
+/// Words whose texts go to the output.
+const PRINT: &str = "depmod -n -b /r -E /r/Module.symvers 6.1.0";
+
+/// A run of them: no file is replaced.
+const PRINTED: TreeRow<'static> = TreeRow {
+    name: "writes that fail",
+    ..KEPT_TWO
+};
+
+/// The writes to the output, with what was written before. The last run has no write of that
+/// number, and is done.
+static WRITES: [TreeRow<'static>; 5] = [
+    TreeRow {
+        failing: Failing::Write(0),
+        rows: &[(PRINT, 3, "", "kmod: output fault\n")],
+        ..PRINTED
+    },
+    TreeRow {
+        failing: Failing::Write(1),
+        rows: &[(
+            PRINT,
+            3,
+            "kernel/a.ko:\nkernel/b.ko: kernel/a.ko\n",
+            "kmod: output fault\n",
+        )],
+        ..PRINTED
+    },
+    TreeRow {
+        failing: Failing::Write(2),
+        rows: &[(
+            PRINT,
+            3,
+            "kernel/a.ko:\nkernel/b.ko: kernel/a.ko\n# Aliases extracted from modules themselves.\n",
+            "kmod: output fault\n",
+        )],
+        ..PRINTED
+    },
+    TreeRow {
+        failing: Failing::Write(3),
+        rows: &[(
+            PRINT,
+            3,
+            "kernel/a.ko:\n\
          kernel/b.ko: kernel/a.ko\n\
          # Aliases extracted from modules themselves.\n\
          # Soft dependencies extracted from modules themselves.\n",
-        "kmod: output fault\n",
-    ),
-    (
-        4,
-        "kernel/a.ko:\n\
+            "kmod: output fault\n",
+        )],
+        ..PRINTED
+    },
+    TreeRow {
+        failing: Failing::Write(4),
+        rows: &[(
+            PRINT,
+            0,
+            "kernel/a.ko:\n\
          kernel/b.ko: kernel/a.ko\n\
          # Aliases extracted from modules themselves.\n\
          # Soft dependencies extracted from modules themselves.\n\
          # Aliases for symbols, used by symbol_request().\n\
          alias symbol:fa a\n",
-        "",
-    ),
-];
-
-/// A run whose texts go to the output: no file is replaced.
-static PRINTED: IndexRow<'static> = IndexRow {
-    name: "writes that fail",
-    modules: TWO,
-    words: "depmod -n -b /r -E /r/Module.symvers 6.1.0",
-    replaced: 0,
-    ..DONE
-};
-
-/// Makes a write to the output fail.
-fn expect_write(rt: &impl Abort, alloc: Global, write: (u8, &'static str, &'static str)) {
-    let (number, out, err) = write;
-    let row = IndexRow {
-        failing: Failing::Write(number),
-        status: if err.is_empty() { 0 } else { 3 },
-        out,
-        err,
+            "",
+        )],
         ..PRINTED
-    };
-    expect_index(rt, alloc, &row);
-}
+    },
+];
 
 /// The table of a kernel that doesn't export `printk`.
 const OTHER_SYMVERS: FileRow<'static> = FileRow {
@@ -204,36 +298,37 @@ const OTHER_SYMVERS: FileRow<'static> = FileRow {
 
 /// A warning that can't be written: there is no line on err, and no file is replaced. If it is
 /// written, all files are.
-static WARNED: [IndexRow<'static>; 2] = [
-    IndexRow {
+static WARNED: [TreeRow<'static>; 2] = [
+    TreeRow {
         name: "a warning that fails",
         modules: TWO,
         files: &[OTHER_SYMVERS],
-        words: "depmod -e -b /r -E /r/Module.symvers 6.1.0",
+        rows: &[("depmod -e -b /r -E /r/Module.symvers 6.1.0", 3, "", "")],
         failing: Failing::Line(0),
-        status: 3,
         replaced: 0,
         ..DONE
     },
-    IndexRow {
+    TreeRow {
         name: "a warning that is written",
         modules: TWO,
         files: &[OTHER_SYMVERS],
-        words: "depmod -e -b /r -E /r/Module.symvers 6.1.0",
+        rows: &[(
+            "depmod -e -b /r -E /r/Module.symvers 6.1.0",
+            0,
+            "",
+            "kmod: warning: kernel/a.ko needs unknown symbol printk\n",
+        )],
         failing: Failing::Line(1),
-        err: "kmod: warning: kernel/a.ko needs unknown symbol printk\n",
-        index: Index::PrintkMissing,
+        index: &PRINTK_MISSING,
         ..DONE
     },
 ];
 
 #[test]
 fn each_call_can_fail(rt: HostRuntime) {
-    for call in &CALLS {
-        expect_call(&rt, rt.alloc(), *call);
-    }
-    for write in &WRITES {
-        expect_write(&rt, rt.alloc(), *write);
-    }
-    expect_rows(&rt, rt.alloc(), &WARNED);
+    let alloc = rt.alloc();
+    run_trees(alloc, &CALLS).expect(&rt, "calls that fail");
+    run_trees(alloc, &REPLACEMENTS).expect(&rt, "replacements that fail");
+    run_trees(alloc, &WRITES).expect(&rt, "writes that fail");
+    run_trees(alloc, &WARNED).expect(&rt, "warnings");
 }

@@ -2,79 +2,8 @@
 // modules.alias.bin, modules.softdep, modules.symbols, modules.symbols.bin, modules.builtin.bin and
 // modules.unmet. A separate program made the binary ones from the format.
 
-/// The contents of the nine files of an index, in the order in which they are replaced.
+/// The contents of files of an index, in the order in which they are replaced.
 pub(crate) type Files = [&'static [u8]; 9];
-
-/// An index.
-#[derive(Clone, Copy)]
-pub(crate) enum Index {
-    /// Of no module.
-    None,
-    /// Of two modules. `b` needs `a`.
-    TwoModules,
-    /// Of these and `c`, which needs nothing, exports `fc`, and has an alias and a soft dependency.
-    WithC,
-    /// Of the two over a kernel that doesn't export `printk`.
-    PrintkMissing,
-    /// Of only `a`.
-    AAlone,
-    /// Of `x`, which has an alias and a soft dependency.
-    AliasesOfX,
-    /// Of two modules that export `fa`, and one that needs it.
-    ExportedTwice,
-    /// Of a module that needs what nobody exports.
-    NosuchMissing,
-    /// The same over an unknown kernel.
-    NAlone,
-    /// Of a module that needs another version than its provider's.
-    VersionDiffers,
-    /// Of a module that needs another weakly.
-    WeakNeed,
-    /// Of an export for modules with a free license, and a module without one that needs it.
-    GplLine,
-    /// Of an export in a namespace, and a module that needs it and doesn't import that.
-    NamespaceLine,
-    /// Of `b`, and of an `a` that is an update.
-    Updated,
-    /// The same where the update exports nothing.
-    UpdatedByNothing,
-    /// Of `a`, and of a `b` that is an update.
-    UpdatedB,
-    /// Of no module, and one built-in name.
-    BuiltIn,
-    /// Of two modules. One needs a symbol with a long name of the other.
-    LongName,
-    /// The same, but it needs another version.
-    LongNameDiffers,
-    /// Of a file system and its two helpers.
-    FileSystemFiles,
-}
-
-/// Returns the files of an index.
-pub(crate) fn files_of(index: Index) -> &'static Files {
-    match index {
-        Index::None => &NONE,
-        Index::TwoModules => &TWO_MODULES,
-        Index::WithC => &WITH_C,
-        Index::PrintkMissing => &PRINTK_MISSING,
-        Index::AAlone => &A_ALONE,
-        Index::AliasesOfX => &ALIASES_OF_X,
-        Index::ExportedTwice => &EXPORTED_TWICE,
-        Index::NosuchMissing => &NOSUCH_MISSING,
-        Index::NAlone => &N_ALONE,
-        Index::VersionDiffers => &VERSION_DIFFERS,
-        Index::WeakNeed => &WEAK_NEED,
-        Index::GplLine => &GPL_LINE,
-        Index::NamespaceLine => &NAMESPACE_LINE,
-        Index::Updated => &UPDATED,
-        Index::UpdatedByNothing => &UPDATED_BY_NOTHING,
-        Index::UpdatedB => &UPDATED_B,
-        Index::BuiltIn => &BUILT_IN,
-        Index::LongName => &LONG_NAME,
-        Index::LongNameDiffers => &LONG_NAME_DIFFERS,
-        Index::FileSystemFiles => &FILE_SYSTEM_FILES,
-    }
-}
 
 /// A text without aliases.
 const NO_ALIASES: &[u8] = b"# Aliases extracted from modules themselves.\n";
@@ -88,7 +17,8 @@ const NO_SYMBOLS: &[u8] = b"# Aliases for symbols, used by symbol_request().\n";
 /// An index without keys.
 const NO_KEYS: &[u8] = b"\xb0\x07\xf4W\x00\x02\x00\x01\x00\x00\x00\x0c";
 
-static NONE: Files = [
+/// Of no module.
+pub(crate) const NONE: Files = [
     b"",
     NO_KEYS,
     NO_ALIASES,
@@ -100,7 +30,8 @@ static NONE: Files = [
     b"",
 ];
 
-static TWO_MODULES: Files = [
+/// Of two modules. `b` needs `a`.
+pub(crate) const TWO_MODULES: Files = [
     b"kernel/a.ko:\nkernel/b.ko: kernel/a.ko\n",
     b"\xb0\x07\xf4W\x00\x02\x00\x01 \x00\x00B\
       \x00\x00\x00\x01\x00\x00\x00\x00kernel/a.ko:\x00\
@@ -117,7 +48,8 @@ static TWO_MODULES: Files = [
     b"",
 ];
 
-static WITH_C: Files = [
+/// Of these and `c`, which needs nothing, exports `fc`, and has an alias and a soft dependency.
+pub(crate) const WITH_C: Files = [
     b"kernel/a.ko:\nkernel/b.ko: kernel/a.ko\nkernel/c.ko:\n",
     b"\xb0\x07\xf4W\x00\x02\x00\x01 \x00\x00W\
       \x00\x00\x00\x01\x00\x00\x00\x00kernel/a.ko:\x00\
@@ -139,7 +71,8 @@ static WITH_C: Files = [
     b"",
 ];
 
-static PRINTK_MISSING: Files = [
+/// Of the two over a kernel that doesn't export `printk`.
+pub(crate) const PRINTK_MISSING: Files = [
     b"kernel/a.ko:\nkernel/b.ko: kernel/a.ko\n",
     b"\xb0\x07\xf4W\x00\x02\x00\x01 \x00\x00B\
       \x00\x00\x00\x01\x00\x00\x00\x00kernel/a.ko:\x00\
@@ -156,7 +89,8 @@ static PRINTK_MISSING: Files = [
     b"missing kernel/a.ko printk\n",
 ];
 
-static A_ALONE: Files = [
+/// Of only `a`.
+pub(crate) const A_ALONE: Files = [
     b"kernel/a.ko:\n",
     b"\xb0\x07\xf4W\x00\x02\x00\x01 \x00\x00!\
       \x00\x00\x00\x01\x00\x00\x00\x00kernel/a.ko:\x00\
@@ -172,7 +106,8 @@ static A_ALONE: Files = [
     b"",
 ];
 
-static ALIASES_OF_X: Files = [
+/// Of `x`, which has an alias and a soft dependency.
+pub(crate) const ALIASES_OF_X: Files = [
     b"kernel/x.ko:\n",
     b"\xb0\x07\xf4W\x00\x02\x00\x01 \x00\x00!\
       \x00\x00\x00\x01\x00\x00\x00\x00kernel/x.ko:\x00\
@@ -188,7 +123,8 @@ static ALIASES_OF_X: Files = [
     b"",
 ];
 
-static EXPORTED_TWICE: Files = [
+/// Of two modules that export `fa`, and one that needs it.
+pub(crate) const EXPORTED_TWICE: Files = [
     b"kernel/a.ko:\nkernel/b.ko:\nkernel/c.ko: kernel/a.ko\n",
     b"\xb0\x07\xf4W\x00\x02\x00\x01 \x00\x00W\
       \x00\x00\x00\x01\x00\x00\x00\x00kernel/a.ko:\x00\
@@ -207,7 +143,8 @@ static EXPORTED_TWICE: Files = [
     b"double fa kernel/a.ko kernel/b.ko\n",
 ];
 
-static NOSUCH_MISSING: Files = [
+/// Of a module that needs what nobody exports.
+pub(crate) const NOSUCH_MISSING: Files = [
     b"kernel/n.ko:\n",
     b"\xb0\x07\xf4W\x00\x02\x00\x01 \x00\x00!\
       \x00\x00\x00\x01\x00\x00\x00\x00kernel/n.ko:\x00\
@@ -221,7 +158,8 @@ static NOSUCH_MISSING: Files = [
     b"missing kernel/n.ko nosuch\n",
 ];
 
-static N_ALONE: Files = [
+/// The same over an unknown kernel.
+pub(crate) const N_ALONE: Files = [
     b"kernel/n.ko:\n",
     b"\xb0\x07\xf4W\x00\x02\x00\x01 \x00\x00!\
       \x00\x00\x00\x01\x00\x00\x00\x00kernel/n.ko:\x00\
@@ -235,7 +173,8 @@ static N_ALONE: Files = [
     b"",
 ];
 
-static VERSION_DIFFERS: Files = [
+/// Of a module that needs another version than its provider's.
+pub(crate) const VERSION_DIFFERS: Files = [
     b"kernel/p.ko:\nkernel/w.ko: kernel/p.ko\n",
     b"\xb0\x07\xf4W\x00\x02\x00\x01 \x00\x00B\
       \x00\x00\x00\x01\x00\x00\x00\x00kernel/p.ko:\x00\
@@ -253,7 +192,8 @@ static VERSION_DIFFERS: Files = [
     b"version kernel/w.ko fa kernel/p.ko\n",
 ];
 
-static WEAK_NEED: Files = [
+/// Of a module that needs another weakly.
+pub(crate) const WEAK_NEED: Files = [
     b"kernel/p.ko:\nkernel/w.ko: kernel/p.ko\n",
     b"\xb0\x07\xf4W\x00\x02\x00\x01 \x00\x00B\
       \x00\x00\x00\x01\x00\x00\x00\x00kernel/p.ko:\x00\
@@ -271,7 +211,8 @@ static WEAK_NEED: Files = [
     b"",
 ];
 
-static GPL_LINE: Files = [
+/// Of an export for modules with a free license, and a module without one that needs it.
+pub(crate) const GPL_LINE: Files = [
     b"kernel/a.ko:\nkernel/b.ko: kernel/a.ko\n",
     b"\xb0\x07\xf4W\x00\x02\x00\x01 \x00\x00B\
       \x00\x00\x00\x01\x00\x00\x00\x00kernel/a.ko:\x00\
@@ -288,7 +229,8 @@ static GPL_LINE: Files = [
     b"gpl kernel/b.ko fa kernel/a.ko\n",
 ];
 
-static NAMESPACE_LINE: Files = [
+/// Of an export in a namespace, and a module that needs it and doesn't import that.
+pub(crate) const NAMESPACE_LINE: Files = [
     b"kernel/a.ko:\nkernel/b.ko: kernel/a.ko\n",
     b"\xb0\x07\xf4W\x00\x02\x00\x01 \x00\x00B\
       \x00\x00\x00\x01\x00\x00\x00\x00kernel/a.ko:\x00\
@@ -305,7 +247,8 @@ static NAMESPACE_LINE: Files = [
     b"namespace kernel/b.ko fa kernel/a.ko\n",
 ];
 
-static UPDATED: Files = [
+/// Of `b`, and of an `a` that is an update.
+pub(crate) const UPDATED: Files = [
     b"kernel/b.ko: updates/a.ko\nupdates/a.ko:\n",
     b"\xb0\x07\xf4W\x00\x02\x00\x01 \x00\x00D\
       \x00\x00\x00\x01\x00\x00\x00\x01updates/a.ko:\x00\
@@ -322,7 +265,8 @@ static UPDATED: Files = [
     b"",
 ];
 
-static UPDATED_BY_NOTHING: Files = [
+/// The same where the update exports nothing.
+pub(crate) const UPDATED_BY_NOTHING: Files = [
     b"kernel/b.ko:\nupdates/a.ko:\n",
     b"\xb0\x07\xf4W\x00\x02\x00\x01 \x00\x007\
       \x00\x00\x00\x01\x00\x00\x00\x01updates/a.ko:\x00\
@@ -337,7 +281,8 @@ static UPDATED_BY_NOTHING: Files = [
     b"missing kernel/b.ko fa\n",
 ];
 
-static UPDATED_B: Files = [
+/// Of `a`, and of a `b` that is an update.
+pub(crate) const UPDATED_B: Files = [
     b"kernel/a.ko:\nupdates/b.ko: kernel/a.ko\n",
     b"\xb0\x07\xf4W\x00\x02\x00\x01 \x00\x00C\
       \x00\x00\x00\x01\x00\x00\x00\x00kernel/a.ko:\x00\
@@ -354,7 +299,8 @@ static UPDATED_B: Files = [
     b"",
 ];
 
-static BUILT_IN: Files = [
+/// Of no module, and one built-in name.
+pub(crate) const BUILT_IN: Files = [
     b"",
     NO_KEYS,
     NO_ALIASES,
@@ -368,7 +314,8 @@ static BUILT_IN: Files = [
     b"",
 ];
 
-static LONG_NAME: Files = [
+/// Of two modules. One needs a symbol with a long name of the other.
+pub(crate) const LONG_NAME: Files = [
     b"kernel/a.ko:\nkernel/b.ko: kernel/a.ko\n",
     b"\xb0\x07\xf4W\x00\x02\x00\x01 \x00\x00B\
       \x00\x00\x00\x01\x00\x00\x00\x00kernel/a.ko:\x00\
@@ -387,7 +334,8 @@ static LONG_NAME: Files = [
     b"",
 ];
 
-static LONG_NAME_DIFFERS: Files = [
+/// The same, but it needs another version.
+pub(crate) const LONG_NAME_DIFFERS: Files = [
     b"kernel/a.ko:\nkernel/b.ko: kernel/a.ko\n",
     b"\xb0\x07\xf4W\x00\x02\x00\x01 \x00\x00B\
       \x00\x00\x00\x01\x00\x00\x00\x00kernel/a.ko:\x00\
@@ -407,7 +355,8 @@ static LONG_NAME_DIFFERS: Files = [
       kernel/a.ko\n",
 ];
 
-static FILE_SYSTEM_FILES: Files = [
+/// Of a file system and its two helpers.
+pub(crate) const FILE_SYSTEM_FILES: Files = [
     b"kernel/fs/mbcache.ko:\n\
       kernel/fs/ext4/ext4.ko: kernel/fs/jbd2/jbd2.ko kernel/fs/mbcache.ko\n\
       kernel/fs/jbd2/jbd2.ko:\n",
@@ -430,6 +379,73 @@ static FILE_SYSTEM_FILES: Files = [
       bd2_journal_start\x00\x00\x00\x00\x01\x00\x00\x00\x02jbd2\x00\
       b_cache_create\x00\x00\x00\x00\x01\x00\x00\x00\x00mbcache\x00\
       ymbol:\x00jm\xc0\x00\x00\x0c\x00\x00\x00\x00\x00\x00\x00\x00\xc0\x00\x00+ss\xa0\x00\x00J",
+    NO_KEYS,
+    b"",
+];
+
+/// Of a module with a device node.
+pub(crate) const ONE_NODE_FILES: Files = [
+    b"kernel/fuse.ko:\n",
+    b"\xb0\x07\xf4W\x00\x02\x00\x01 \x00\x00(use\x00\x00\x00\x00\x01\x00\x00\x00\x00kernel\
+      /fuse.ko:\x00ff\xc0\x00\x00\x0c",
+    b"# Aliases extracted from modules themselves.\n\
+      alias devname:fuse fuse\n\
+      alias char-major-10-229 fuse\n",
+    b"\xb0\x07\xf4W\x00\x02\x00\x01 \x00\x00Char_major_10_229\x00\x00\x00\x00\x01\x00\x00\
+      \x00\x00fuse\x00evname:fuse\x00\x00\x00\x00\x01\x00\x00\x00\x00fuse\x00cd\xc0\x00\
+      \x00\x0c\xc0\x00\x00*",
+    NO_SOFTDEPS,
+    NO_SYMBOLS,
+    NO_KEYS,
+    NO_KEYS,
+    b"",
+];
+
+/// Of three modules, two of them with device nodes.
+pub(crate) const TWO_NODES_FILES: Files = [
+    b"kernel/a/loop.ko:\n\
+      kernel/b/tun.ko:\n\
+      kernel/c/fuse.ko:\n",
+    b"\xb0\x07\xf4W\x00\x02\x00\x01 \x00\x00duse\x00\x00\x00\x00\x01\x00\x00\x00\x02kernel\
+      /c/fuse.ko:\x00oop\x00\x00\x00\x00\x01\x00\x00\x00\x00kernel/a/loop.ko:\x00un\x00\
+      \x00\x00\x00\x01\x00\x00\x00\x01kernel/b/tun.ko:\x00ft\xc0\x00\x00\x0c\x00\x00\x00\
+      \x00\x00\x00\x00\x00\x00\x00\x00\x00\x00\x00\x00\x00\x00\x00\x00\x00\xc0\x00\x00*\
+      \x00\x00\x00\x00\x00\x00\x00\x00\x00\x00\x00\x00\x00\x00\x00\x00\x00\x00\x00\x00\x00\
+      \x00\x00\x00\x00\x00\x00\x00\xc0\x00\x00H",
+    b"# Aliases extracted from modules themselves.\n\
+      alias block-major-7-* loop\n\
+      alias devname:loop-control loop\n\
+      alias block-major-007-0 loop\n\
+      alias char-major-10-237 loop\n\
+      alias devname:loop0 loop\n\
+      alias devname:net/tun tun\n\
+      alias char-major-10-4294967296 tun\n\
+      alias devname:fuse fuse\n\
+      alias char-major-10-229 fuse\n",
+    b"\xb0\x07\xf4W\x00\x02\x00\x01 \x00\x01\xf007_0\x00\x00\x00\x00\x01\x00\x00\x00\x00lo\
+      op\x00_*\x00\x00\x00\x00\x01\x00\x00\x00\x00loop\x00lock_major_\x0007\xc0\x00\x00\
+      \x0c\x00\x00\x00\x00\x00\x00\x00\x00\x00\x00\x00\x00\x00\x00\x00\x00\x00\x00\x00\x00\
+      \x00\x00\x00\x00\xc0\x00\x00\x1e9\x00\x00\x00\x00\x01\x00\x00\x00\x02fuse\x007\x00\
+      \x00\x00\x00\x01\x00\x00\x00\x00loop\x0023\xc0\x00\x00\\\xc0\x00\x00k294967296\x00\
+      \x00\x00\x00\x01\x00\x00\x00\x01tun\x00har_major_10_\x0024 \x00\x00z\x00\x00\x00\x00\
+      \xc0\x00\x00\x84use\x00\x00\x00\x00\x01\x00\x00\x00\x02fuse\x00\x00\x00\x00\x01\x00\
+      \x00\x00\x00loop\x00control\x00\x00\x00\x00\x01\x00\x00\x00\x00loop\x00oop\x000_@\
+      \x00\x00\xc7\x00\x00\x00\x00\x00\x00\x00\x00\x00\x00\x00\x00\x00\x00\x00\x00\x00\x00\
+      \x00\x00\x00\x00\x00\x00\x00\x00\x00\x00\x00\x00\x00\x00\x00\x00\x00\x00\x00\x00\x00\
+      \x00\x00\x00\x00\x00\x00\x00\x00\x00\x00\x00\x00\x00\x00\x00\x00\x00\x00\x00\x00\x00\
+      \x00\x00\x00\x00\x00\x00\x00\x00\x00\x00\x00\x00\x00\x00\x00\x00\x00\x00\x00\x00\x00\
+      \x00\x00\x00\x00\x00\x00\x00\x00\x00\x00\x00\x00\x00\x00\x00\x00\x00\x00\x00\x00\x00\
+      \x00\x00\x00\x00\x00\x00\x00\x00\x00\x00\x00\x00\x00\x00\x00\x00\x00\x00\x00\x00\x00\
+      \x00\x00\x00\x00\x00\x00\x00\x00\x00\x00\x00\x00\x00\x00\x00\x00\x00\x00\x00\x00\x00\
+      \x00\x00\x00\x00\x00\x00\x00\x00\x00\x00\x00\x00\x00\x00\x00\x00\x00\x00\x00\x00\x00\
+      \x00\x00\x00\x00\x00\x00\x00\x00\x00\x00\x00\x00\x00\x00\x00\x00\x00\x00\x00\xc0\x00\
+      \x00\xd4et/tun\x00\x00\x00\x00\x01\x00\x00\x00\x01tun\x00evname:\x00fn\xc0\x00\x00\
+      \xb6\x00\x00\x00\x00\x00\x00\x00\x00\x00\x00\x00\x00\x00\x00\x00\x00\x00\x00\x00\x00\
+      \xa0\x00\x00\xe9\x00\x00\x00\x00\xc0\x00\x01\xafbd\xa0\x00\x00.\xa0\x00\x00\x9a\xa0\
+      \x00\x01\xc2",
+    NO_SOFTDEPS,
+    NO_SYMBOLS,
+    NO_KEYS,
     NO_KEYS,
     b"",
 ];

@@ -1,6 +1,10 @@
 // Trees that are indexed, and those that are refused.
-use crate::expect::{DONE, IndexRow, REFUSED, expect_index, expect_rows};
-use crate::indexes::Index;
+use crate::indexes::{
+    A_ALONE, ALIASES_OF_X, BUILT_IN, EXPORTED_TWICE, FILE_SYSTEM_FILES, GPL_LINE, LONG_NAME,
+    LONG_NAME_DIFFERS, N_ALONE, NAMESPACE_LINE, NONE, NOSUCH_MISSING, TWO_MODULES, UPDATED,
+    UPDATED_B, UPDATED_BY_NOTHING, VERSION_DIFFERS, WEAK_NEED,
+};
+use crate::rows::{DONE, KEPT};
 use crate::sheets::{
     ALIASES, CIRCLE_A, CIRCLE_B, CIRCLE_C, CIRCLE_P, GIVES_LONG, LONG_VERSION_17, LONG_VERSION_18,
     NEEDS_LONG,
@@ -10,13 +14,16 @@ use test_objects::{
     FREE, GIVES, GIVES_ALONE, GIVES_VERSION_1, GPL_ONLY, IMPORTS, IN_SPACE, MAY_NEED,
     MAY_NEED_VERSION_2, NEEDS, NEEDS_NOSUCH, NO_MORE, NOTHING,
 };
-use test_rows::{FILE_SYSTEM, FILE_SYSTEM_KERNEL, Failing, FileRow, SYMVERS, TWO, USAGE};
+use test_rows::{
+    FILE_SYSTEM, FILE_SYSTEM_KERNEL, Failing, FileRow, INDEX, SYMVERS, TWO, TreeRow, USAGE,
+    run_tree, run_trees,
+};
 
 /// Trees that are indexed.
-static PLAIN: [IndexRow<'static>; 10] = [
+static INDEXED: [TreeRow<'static>; 10] = [
     // A tree without modules: the texts have their headings, and each index is the index of an
     // empty map.
-    IndexRow {
+    TreeRow {
         name: "a tree without modules",
         files: &[
             SYMVERS,
@@ -26,177 +33,194 @@ static PLAIN: [IndexRow<'static>; 10] = [
             },
         ],
         is_old: false,
-        index: Index::None,
+        index: &NONE,
         ..DONE
     },
     // Two modules. One needs the other.
-    IndexRow {
+    TreeRow {
         name: "one module needs another",
         modules: TWO,
-        index: Index::TwoModules,
+        index: &TWO_MODULES,
         ..DONE
     },
     // With `-n` the texts go to the output, and no replacement is made.
-    IndexRow {
+    TreeRow {
         name: "text files go to the output",
         modules: TWO,
         failing: Failing::Call(CallKind::Replace, 0),
-        words: "depmod -n -b /r -E /r/Module.symvers 6.1.0",
-        out: "kernel/a.ko:\n\
+        rows: &[(
+            "depmod -n -b /r -E /r/Module.symvers 6.1.0",
+            0,
+            "kernel/a.ko:\n\
               kernel/b.ko: kernel/a.ko\n\
               # Aliases extracted from modules themselves.\n\
               # Soft dependencies extracted from modules themselves.\n\
               # Aliases for symbols, used by symbol_request().\n\
               alias symbol:fa a\n",
+            "",
+        )],
         replaced: 0,
         ..DONE
     },
     // With `-o` files are put below another root; a root may end in slashes.
-    IndexRow {
+    TreeRow {
         name: "files go to another folder",
         modules: &[("kernel/a.ko", &GIVES, &NO_MORE)],
-        words: "depmod -b /r// -o /o/ -E /r/Module.symvers 6.1.0",
-        index: Index::AAlone,
+        rows: &[(
+            "depmod -b /r// -o /o/ -E /r/Module.symvers 6.1.0",
+            0,
+            "",
+            "",
+        )],
+        index: &A_ALONE,
         folder: b"/o/lib/modules/6.1.0",
         ..DONE
     },
     // An alias is written as it is stated; one without a normal form is left out.
-    IndexRow {
+    TreeRow {
         name: "an alias that cannot be used",
         modules: &[("kernel/x.ko", &ALIASES, &NO_MORE)],
-        index: Index::AliasesOfX,
+        index: &ALIASES_OF_X,
         ..DONE
     },
     // The first module in the tree provides what two export.
-    IndexRow {
+    TreeRow {
         name: "two modules export one name",
         modules: &[
             ("kernel/a.ko", &GIVES_ALONE, &NO_MORE),
             ("kernel/b.ko", &GIVES_ALONE, &NO_MORE),
             ("kernel/c.ko", &NEEDS, &NO_MORE),
         ],
-        index: Index::ExportedTwice,
+        index: &EXPORTED_TWICE,
         ..DONE
     },
     // A symbol that nobody exports has a line, and with `-e` a warning.
-    IndexRow {
+    TreeRow {
         name: "a symbol is missing",
         modules: &[("kernel/n.ko", &NEEDS_NOSUCH, &NO_MORE)],
-        words: "depmod -e -b /r -E /r/Module.symvers 6.1.0",
-        err: "kmod: warning: kernel/n.ko needs unknown symbol nosuch\n",
-        index: Index::NosuchMissing,
+        rows: &[(
+            "depmod -e -b /r -E /r/Module.symvers 6.1.0",
+            0,
+            "",
+            "kmod: warning: kernel/n.ko needs unknown symbol nosuch\n",
+        )],
+        index: &NOSUCH_MISSING,
         ..DONE
     },
     // A version that differs has a line, and with `-e` a warning; a weak need is a dependency.
-    IndexRow {
+    TreeRow {
         name: "a version differs",
         modules: &[
             ("kernel/p.ko", &GIVES_VERSION_1, &NO_MORE),
             ("kernel/w.ko", &MAY_NEED_VERSION_2, &NO_MORE),
         ],
-        words: "depmod -e -b /r -E /r/Module.symvers 6.1.0",
-        err: "kmod: warning: kernel/w.ko disagrees about version of symbol fa\n",
-        index: Index::VersionDiffers,
+        rows: &[(
+            "depmod -e -b /r -E /r/Module.symvers 6.1.0",
+            0,
+            "",
+            "kmod: warning: kernel/w.ko disagrees about version of symbol fa\n",
+        )],
+        index: &VERSION_DIFFERS,
         ..DONE
     },
     // Without a kernel's table nothing is missing.
-    IndexRow {
+    TreeRow {
         name: "an unknown kernel exports all",
         modules: &[("kernel/n.ko", &NEEDS_NOSUCH, &NO_MORE)],
-        words: "depmod -e -b /r 6.1.0",
-        index: Index::NAlone,
+        rows: &[("depmod -e -b /r 6.1.0", 0, "", "")],
+        index: &N_ALONE,
         ..DONE
     },
     // The table of a System.map gives the same files.
-    IndexRow {
+    TreeRow {
         name: "a system map is a table",
         modules: TWO,
         files: &[FileRow {
             path: "/r/System.map",
             bytes: b"ffffffff81000000 T printk\nffffffff82000000 r __ksymtab_printk\n",
         }],
-        words: "depmod -b /r -F /r/System.map 6.1.0",
-        index: Index::TwoModules,
+        rows: &[("depmod -b /r -F /r/System.map 6.1.0", 0, "", "")],
+        index: &TWO_MODULES,
         ..DONE
     },
 ];
 
 /// Further trees that are indexed, or whose index is cut short.
-static FURTHER: [IndexRow<'static>; 13] = [
+static FURTHER: [TreeRow<'static>; 13] = [
     // A module without a free license doesn't see a GPL-only export.
-    IndexRow {
+    TreeRow {
         name: "a GPL-only export has a line",
         modules: &[
             ("kernel/a.ko", &GIVES_ALONE, &GPL_ONLY),
             ("kernel/b.ko", &NEEDS, &NO_MORE),
         ],
-        index: Index::GplLine,
+        index: &GPL_LINE,
         ..DONE
     },
     // One with a free license does.
-    IndexRow {
+    TreeRow {
         name: "a GPL-only export that is seen has no line",
         modules: &[
             ("kernel/a.ko", &GIVES_ALONE, &GPL_ONLY),
             ("kernel/b.ko", &FREE, &NO_MORE),
         ],
-        index: Index::TwoModules,
+        index: &TWO_MODULES,
         ..DONE
     },
     // A weak need of a GPL-only export is a dependency, and has no line.
-    IndexRow {
+    TreeRow {
         name: "a weak need that isn't seen has no line",
         modules: &[
             ("kernel/a.ko", &GIVES_ALONE, &GPL_ONLY),
             ("kernel/b.ko", &MAY_NEED, &NO_MORE),
         ],
-        index: Index::TwoModules,
+        index: &TWO_MODULES,
         ..DONE
     },
     // A module that doesn't import a namespace may not use its exports.
-    IndexRow {
+    TreeRow {
         name: "a namespace has a line",
         modules: &[
             ("kernel/a.ko", &GIVES_ALONE, &IN_SPACE),
             ("kernel/b.ko", &NEEDS, &NO_MORE),
         ],
-        index: Index::NamespaceLine,
+        index: &NAMESPACE_LINE,
         ..DONE
     },
     // One that imports it may.
-    IndexRow {
+    TreeRow {
         name: "a namespace that is imported has no line",
         modules: &[
             ("kernel/a.ko", &GIVES_ALONE, &IN_SPACE),
             ("kernel/b.ko", &IMPORTS, &NO_MORE),
         ],
-        index: Index::TwoModules,
+        index: &TWO_MODULES,
         ..DONE
     },
     // Of two modules of one name the one in `updates` is chosen.
-    IndexRow {
+    TreeRow {
         name: "an update is chosen",
         modules: &[
             ("kernel/a.ko", &GIVES, &NO_MORE),
             ("kernel/b.ko", &NEEDS, &NO_MORE),
             ("updates/a.ko", &GIVES, &NO_MORE),
         ],
-        index: Index::Updated,
+        index: &UPDATED,
         ..DONE
     },
     // What only the module that isn't chosen exports is missing.
-    IndexRow {
+    TreeRow {
         name: "an update exports nothing",
         modules: &[
             ("kernel/a.ko", &GIVES, &NO_MORE),
             ("kernel/b.ko", &NEEDS, &NO_MORE),
             ("updates/a.ko", &NOTHING, &NO_MORE),
         ],
-        index: Index::UpdatedByNothing,
+        index: &UPDATED_BY_NOTHING,
         ..DONE
     },
     // A module that isn't chosen has no effect.
-    IndexRow {
+    TreeRow {
         name: "a compressed module may be passed over",
         modules: &[
             ("kernel/a.ko", &GIVES, &NO_MORE),
@@ -209,22 +233,26 @@ static FURTHER: [IndexRow<'static>; 13] = [
                 bytes: b"",
             },
         ],
-        index: Index::UpdatedB,
+        index: &UPDATED_B,
         ..DONE
     },
     // A replacement that fails leaves those before it done, and the others as they were.
-    IndexRow {
+    TreeRow {
         name: "the third replacement fails",
         modules: &[("kernel/a.ko", &GIVES, &NO_MORE)],
         failing: Failing::Call(CallKind::Replace, 2),
-        status: 3,
-        err: "kmod: file fault /r/lib/modules/6.1.0/modules.alias\n",
-        index: Index::AAlone,
+        rows: &[(
+            INDEX,
+            3,
+            "",
+            "kmod: file fault /r/lib/modules/6.1.0/modules.alias\n",
+        )],
+        index: &A_ALONE,
         replaced: 2,
         ..DONE
     },
     // The names of built-in modules are in their index, each once.
-    IndexRow {
+    TreeRow {
         name: "built in modules have an index",
         files: &[
             SYMVERS,
@@ -233,46 +261,46 @@ static FURTHER: [IndexRow<'static>; 13] = [
                 bytes: b"kernel/lib/b-x.ko\n\nkernel/b_x.ko\n",
             },
         ],
-        index: Index::BuiltIn,
+        index: &BUILT_IN,
         ..DONE
     },
     // A weak need that a module provides is a dependency.
-    IndexRow {
+    TreeRow {
         name: "a weak need is a dependency",
         modules: &[
             ("kernel/p.ko", &GIVES_ALONE, &NO_MORE),
             ("kernel/w.ko", &MAY_NEED, &NO_MORE),
         ],
-        index: Index::WeakNeed,
+        index: &WEAK_NEED,
         ..DONE
     },
     // A version of a symbol with a long name, in the extended form: one that agrees, and one that
     // doesn't.
-    IndexRow {
+    TreeRow {
         name: "a long name has a version",
         modules: &[
             ("kernel/a.ko", &GIVES_LONG, &NO_MORE),
             ("kernel/b.ko", &NEEDS_LONG, &LONG_VERSION_17),
         ],
-        index: Index::LongName,
+        index: &LONG_NAME,
         ..DONE
     },
-    IndexRow {
+    TreeRow {
         name: "a long name has another version",
         modules: &[
             ("kernel/a.ko", &GIVES_LONG, &NO_MORE),
             ("kernel/b.ko", &NEEDS_LONG, &LONG_VERSION_18),
         ],
-        index: Index::LongNameDiffers,
+        index: &LONG_NAME_DIFFERS,
         ..DONE
     },
 ];
 
 /// Trees that are refused. No file is replaced.
-static REFUSALS: [IndexRow<'static>; 9] = [
+static REFUSALS: [TreeRow<'static>; 9] = [
     // Modules that need each other: the cycle begins with its first module in the tree, and no file
     // is replaced.
-    IndexRow {
+    TreeRow {
         name: "modules in a cycle",
         modules: &[
             ("kernel/p.ko", &CIRCLE_P, &NO_MORE),
@@ -287,12 +315,12 @@ static REFUSALS: [IndexRow<'static>; 9] = [
                 bytes: b"kernel/p.ko\nkernel/a.ko\nkernel/b.ko\nkernel/c.ko\n",
             },
         ],
-        err: "kmod: cycle a -> b -> c -> a\n",
-        ..REFUSED
+        rows: &[(INDEX, 1, "", "kmod: cycle a -> b -> c -> a\n")],
+        ..KEPT
     },
     // The first bad module in the order of the tree is named by its path there, and no file is
     // replaced.
-    IndexRow {
+    TreeRow {
         name: "a bad module is named",
         modules: &[
             ("kernel/a.ko", &GIVES, &NO_MORE),
@@ -309,11 +337,11 @@ static REFUSALS: [IndexRow<'static>; 9] = [
                 bytes: b"none either",
             },
         ],
-        err: "kmod: kernel/b.ko: not an ELF file\n",
-        ..REFUSED
+        rows: &[(INDEX, 1, "", "kmod: kernel/b.ko: not an ELF file\n")],
+        ..KEPT
     },
     // A compressed module that is chosen is refused unread.
-    IndexRow {
+    TreeRow {
         name: "a compressed module is refused",
         modules: &[("kernel/a.ko", &GIVES, &NO_MORE)],
         files: &[
@@ -323,11 +351,11 @@ static REFUSALS: [IndexRow<'static>; 9] = [
                 bytes: b"",
             },
         ],
-        err: "kmod: kernel/b.ko.xz: compressed\n",
-        ..REFUSED
+        rows: &[(INDEX, 1, "", "kmod: kernel/b.ko.xz: compressed\n")],
+        ..KEPT
     },
     // A module in another folder is chosen if the configuration says so.
-    IndexRow {
+    TreeRow {
         name: "the search list is the configuration's",
         modules: &[("kernel/a.ko", &GIVES, &NO_MORE)],
         files: &[
@@ -345,69 +373,79 @@ static REFUSALS: [IndexRow<'static>; 9] = [
                 bytes: b"search kernel\n",
             },
         ],
-        err: "kmod: kernel/b.ko.xz: compressed\n",
-        ..REFUSED
+        rows: &[(INDEX, 1, "", "kmod: kernel/b.ko.xz: compressed\n")],
+        ..KEPT
     },
     // The configuration is read before all else.
-    IndexRow {
+    TreeRow {
         name: "a bad line of the configuration",
         files: &[FileRow {
             path: "/c/a.conf",
             bytes: b"search updates\nmake_map_files no\n",
         }],
-        words: "depmod -C /c -b /r -E /r/Module.symvers 6.1.0",
-        err: "kmod: /c/a.conf: bad line 2\n",
-        ..REFUSED
+        rows: &[(
+            "depmod -C /c -b /r -E /r/Module.symvers 6.1.0",
+            1,
+            "",
+            "kmod: /c/a.conf: bad line 2\n",
+        )],
+        ..KEPT
     },
     // A configuration that is named is required.
-    IndexRow {
+    TreeRow {
         name: "no configuration at the path",
-        words: "depmod -C /c -b /r -E /r/Module.symvers 6.1.0",
-        err: "kmod: no file /c\n",
-        ..REFUSED
+        rows: &[(
+            "depmod -C /c -b /r -E /r/Module.symvers 6.1.0",
+            1,
+            "",
+            "kmod: no file /c\n",
+        )],
+        ..KEPT
     },
     // A line of the kernel's table that isn't understood.
-    IndexRow {
+    TreeRow {
         name: "a bad line of the kernel's table",
         modules: &[("kernel/a.ko", &GIVES, &NO_MORE)],
         files: &[FileRow {
             path: "/r/Module.symvers",
             bytes: b"0x1\tprintk\tvmlinux\nprintk\n",
         }],
-        err: "kmod: /r/Module.symvers: bad line 2\n",
-        ..REFUSED
+        rows: &[(INDEX, 1, "", "kmod: /r/Module.symvers: bad line 2\n")],
+        ..KEPT
     },
     // A folder that is missing.
-    IndexRow {
+    TreeRow {
         name: "no modules at all",
-        words: "depmod -b /s -E /r/Module.symvers 6.1.0",
-        err: "kmod: no file /s/lib/modules/6.1.0\n",
-        ..REFUSED
+        rows: &[(
+            "depmod -b /s -E /r/Module.symvers 6.1.0",
+            1,
+            "",
+            "kmod: no file /s/lib/modules/6.1.0\n",
+        )],
+        ..KEPT
     },
     // Words that exclude each other aren't understood.
-    IndexRow {
+    TreeRow {
         name: "two tables are too many",
-        words: "depmod -F x -E y 6.1.0",
-        status: 2,
-        err: USAGE,
-        ..REFUSED
+        rows: &[("depmod -F x -E y 6.1.0", 2, "", USAGE)],
+        ..KEPT
     },
 ];
 
 /// A file system with two helpers, over a kernel of 40 names.
-static FILE_SYSTEM_ROW: IndexRow<'static> = IndexRow {
+static FILE_SYSTEM_ROW: TreeRow<'static> = TreeRow {
     name: "a file system needs two helpers",
     modules: FILE_SYSTEM,
     files: FILE_SYSTEM_KERNEL,
-    index: Index::FileSystemFiles,
+    index: &FILE_SYSTEM_FILES,
     ..DONE
 };
 
 #[test]
 fn trees_are_indexed_or_refused(rt: HostRuntime) {
     let alloc = rt.alloc();
-    expect_rows(&rt, alloc, &PLAIN);
-    expect_rows(&rt, alloc, &FURTHER);
-    expect_rows(&rt, alloc, &REFUSALS);
-    expect_index(&rt, alloc, &FILE_SYSTEM_ROW);
+    run_trees(alloc, &INDEXED).expect(&rt, "trees that are indexed");
+    run_trees(alloc, &FURTHER).expect(&rt, "further trees");
+    run_trees(alloc, &REFUSALS).expect(&rt, "trees that are refused");
+    run_tree(alloc, &FILE_SYSTEM_ROW).expect(&rt, "a file system");
 }

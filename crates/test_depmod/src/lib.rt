@@ -11,8 +11,6 @@ mod again;
 #[cfg(test)]
 mod calls;
 #[cfg(test)]
-mod expect;
-#[cfg(test)]
 mod extra;
 #[cfg(test)]
 mod extra_lookups;
@@ -29,6 +27,6 @@ mod modinfo_names;
 #[cfg(test)]
 mod modprobe_names;
 #[cfg(test)]
-mod runs;
+mod rows;
 #[cfg(test)]
 mod sheets;

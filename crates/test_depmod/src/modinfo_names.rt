@@ -1,10 +1,7 @@
 // Modules that are shown by their names.
-use crate::runs::expect_over;
 use outside_calls::CallKind;
-use std::alloc::Global;
-use std::process::Abort;
-use test_objects::LICENSE_OBJECT;
-use test_rows::{Failing, FileRow, Row, RowOf};
+use test_objects::{EMPTY_SHEET, NO_MORE, SheetRow};
+use test_rows::{Failing, FileRow, PLAIN, Row, TreeRow, run_tree, run_trees};
 
 /// A modules.dep.bin: `a` with the line `kernel/a.ko:`, and `b` with `kernel/b.ko: kernel/a.ko`.
 const TWO_NAMES: &[u8] = b"\xb0\x07\xf4\x57\x00\x02\x00\x01\x20\x00\x00\x42\
@@ -37,7 +34,7 @@ pub(crate) const CUT_VALUE: &[u8] =
     b"\xb0\x07\xf4\x57\x00\x02\x00\x01\x40\x00\x00\x0c\x00\x00\x00\x01\x00\x00\x00\x00x";
 
 /// What is shown of modules by their names.
-static BY_NAME: [Row; 10] = [
+const BY_NAME: &[Row] = &[
     (
         "modinfo -l -k 6.1.0 -b /r nosuch",
         1,
@@ -95,86 +92,135 @@ static BY_NAME: [Row; 10] = [
     ),
 ];
 
-/// Indexes in place of modules.dep.bin, and why `a` can't be shown.
-static REFUSED: [(&[u8], &str); 5] = [
-    (NO_LINE, "kmod: not found a\n"),
-    (
-        COMPRESSED,
-        "kmod: /r/lib/modules/6.1.0/k.ko.xz: compressed\n",
-    ),
-    (
-        FORWARD_CHILD,
-        "kmod: /r/lib/modules/6.1.0/modules.dep.bin: bad index node at 18\n",
-    ),
-    (
-        REACHED_TWICE,
-        "kmod: /r/lib/modules/6.1.0/modules.dep.bin: index node twice at 12\n",
-    ),
-    (
-        CUT_VALUE,
-        "kmod: /r/lib/modules/6.1.0/modules.dep.bin: bad index node at 12\n",
-    ),
-];
+/// A module with a license.
+const LICENSED: SheetRow = SheetRow {
+    texts: &[b"license=GPL"],
+    ..EMPTY_SHEET
+};
 
-/// Runs a row over a kernel of the version 6.1.0 below `/r` with this modules.dep.bin, and its
-/// module `a`, while something fails.
-fn expect_shown(
-    rt: &impl Abort,
-    alloc: Global,
-    index: &'static [u8],
-    failing: Failing,
-    row: RowOf<'_>,
-) {
-    let files = [
-        FileRow {
+/// A kernel of the version 6.1.0 below `/r` that has the module `a`.
+const A_ALONE: TreeRow<'static> = TreeRow {
+    modules: &[("kernel/a.ko", &LICENSED, &NO_MORE)],
+    ..PLAIN
+};
+
+/// The same with an index of two names.
+const NAMED: TreeRow<'static> = TreeRow {
+    files: &[FileRow {
+        path: "/r/lib/modules/6.1.0/modules.dep.bin",
+        bytes: TWO_NAMES,
+    }],
+    ..A_ALONE
+};
+
+/// That kernel, and what is shown.
+static SHOWN: TreeRow<'static> = TreeRow {
+    rows: BY_NAME,
+    ..NAMED
+};
+
+/// Indexes in place of modules.dep.bin, with which `a` can't be shown.
+static REFUSED: [TreeRow<'static>; 5] = [
+    TreeRow {
+        files: &[FileRow {
             path: "/r/lib/modules/6.1.0/modules.dep.bin",
-            bytes: index,
-        },
-        FileRow {
-            path: "/r/lib/modules/6.1.0/kernel/a.ko",
-            bytes: &LICENSE_OBJECT,
-        },
-    ];
-    expect_over(rt, alloc, &files, failing, row);
-}
-
-/// Which read fails, and what is written to the output and to err then.
-static FAILING: [(u8, &str, &str); 3] = [
-    (
-        0,
-        "",
-        "kmod: file fault /r/lib/modules/6.1.0/modules.dep.bin\n",
-    ),
-    (1, "", "kmod: file fault /r/lib/modules/6.1.0/kernel/a.ko\n"),
-    (
-        2,
-        "GPL\n",
-        "kmod: file fault /r/lib/modules/6.1.0/kernel/a.ko\n",
-    ),
+            bytes: NO_LINE,
+        }],
+        rows: &[("modinfo -k 6.1.0 -b /r a", 1, "", "kmod: not found a\n")],
+        ..A_ALONE
+    },
+    TreeRow {
+        files: &[FileRow {
+            path: "/r/lib/modules/6.1.0/modules.dep.bin",
+            bytes: COMPRESSED,
+        }],
+        rows: &[(
+            "modinfo -k 6.1.0 -b /r a",
+            1,
+            "",
+            "kmod: /r/lib/modules/6.1.0/k.ko.xz: compressed\n",
+        )],
+        ..A_ALONE
+    },
+    TreeRow {
+        files: &[FileRow {
+            path: "/r/lib/modules/6.1.0/modules.dep.bin",
+            bytes: FORWARD_CHILD,
+        }],
+        rows: &[(
+            "modinfo -k 6.1.0 -b /r a",
+            1,
+            "",
+            "kmod: /r/lib/modules/6.1.0/modules.dep.bin: bad index node at 18\n",
+        )],
+        ..A_ALONE
+    },
+    TreeRow {
+        files: &[FileRow {
+            path: "/r/lib/modules/6.1.0/modules.dep.bin",
+            bytes: REACHED_TWICE,
+        }],
+        rows: &[(
+            "modinfo -k 6.1.0 -b /r a",
+            1,
+            "",
+            "kmod: /r/lib/modules/6.1.0/modules.dep.bin: index node twice at 12\n",
+        )],
+        ..A_ALONE
+    },
+    TreeRow {
+        files: &[FileRow {
+            path: "/r/lib/modules/6.1.0/modules.dep.bin",
+            bytes: CUT_VALUE,
+        }],
+        rows: &[(
+            "modinfo -k 6.1.0 -b /r a",
+            1,
+            "",
+            "kmod: /r/lib/modules/6.1.0/modules.dep.bin: bad index node at 12\n",
+        )],
+        ..A_ALONE
+    },
 ];
 
-/// Runs the rows that are shown, and the rows of indexes that are refused.
-fn expect_rows(rt: &impl Abort, alloc: Global) {
-    for row in &BY_NAME {
-        expect_shown(rt, alloc, TWO_NAMES, Failing::Nothing, *row);
-    }
-    for (index, err) in &REFUSED {
-        let row = ("modinfo -k 6.1.0 -b /r a", 1, "", *err);
-        expect_shown(rt, alloc, index, Failing::Nothing, row);
-    }
-}
-
-/// Makes each read fail in turn: the index is read once, and first.
-fn expect_failing(rt: &impl Abort, alloc: Global) {
-    for (read, out, err) in &FAILING {
-        let row = ("modinfo -l -k 6.1.0 -b /r a a", 3, *out, *err);
-        let failing = Failing::Call(CallKind::Read, *read);
-        expect_shown(rt, alloc, TWO_NAMES, failing, row);
-    }
-}
+/// Reads that fail in turn, with what is printed before: the index is read once, and first.
+static FAILING: [TreeRow<'static>; 3] = [
+    TreeRow {
+        failing: Failing::Call(CallKind::Read, 0),
+        rows: &[(
+            "modinfo -l -k 6.1.0 -b /r a a",
+            3,
+            "",
+            "kmod: file fault /r/lib/modules/6.1.0/modules.dep.bin\n",
+        )],
+        ..NAMED
+    },
+    TreeRow {
+        failing: Failing::Call(CallKind::Read, 1),
+        rows: &[(
+            "modinfo -l -k 6.1.0 -b /r a a",
+            3,
+            "",
+            "kmod: file fault /r/lib/modules/6.1.0/kernel/a.ko\n",
+        )],
+        ..NAMED
+    },
+    TreeRow {
+        failing: Failing::Call(CallKind::Read, 2),
+        rows: &[(
+            "modinfo -l -k 6.1.0 -b /r a a",
+            3,
+            "GPL\n",
+            "kmod: file fault /r/lib/modules/6.1.0/kernel/a.ko\n",
+        )],
+        ..NAMED
+    },
+];
 
 #[test]
 fn modules_are_shown_by_their_names(rt: HostRuntime) {
-    expect_rows(&rt, rt.alloc());
-    expect_failing(&rt, rt.alloc());
+    let alloc = rt.alloc();
+    run_tree(alloc, &SHOWN).expect(&rt, "modules by their names");
+    run_trees(alloc, &REFUSED).expect(&rt, "refused indexes");
+    run_trees(alloc, &FAILING).expect(&rt, "reads that fail");
 }

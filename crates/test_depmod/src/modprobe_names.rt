@@ -1,9 +1,6 @@
 // What names stand for, by files of a folder and a configuration.
 use crate::modinfo_names::{CUT_VALUE, FORWARD_CHILD, REACHED_TWICE};
-use crate::runs::expect_over;
-use std::alloc::Global;
-use std::process::Abort;
-use test_rows::{Failing, FileRow, Row};
+use test_rows::{FileRow, PLAIN, TreeRow, run_trees};
 
 /// A modules.dep.bin of `a`, and of `b`, which needs `a`.
 const DEP: FileRow<'static> = FileRow {
@@ -57,80 +54,90 @@ const BLACKLIST: FileRow<'static> = FileRow {
     bytes: b"blacklist u2\n",
 };
 
-/// Files, and a row of words over them.
-type FilesRow = (&'static [FileRow<'static>], Row);
+/// The files of a folder.
+const FOLDER_FILES: TreeRow<'static> = TreeRow {
+    files: &[DEP, ALIAS, SYMBOLS, BUILTIN],
+    ..PLAIN
+};
+
+/// The files of another folder, where `u2` is blacklisted.
+const BLACKLISTED: TreeRow<'static> = TreeRow {
+    files: &[DEP_OF_U2, ALIAS, SYMBOLS, BUILTIN, BLACKLIST],
+    ..PLAIN
+};
 
 /// What names stand for.
-static NAMES: [FilesRow; 9] = [
-    (
-        &[DEP, ALIAS, SYMBOLS, BUILTIN],
-        ("modprobe -d /r -S 6.1.0 -R symbol:fa", 0, "a\n", ""),
-    ),
-    (
-        &[DEP, ALIAS, SYMBOLS, BUILTIN],
-        ("modprobe -d /r -S 6.1.0 -R pci-x:v00001d99", 0, "x\n", ""),
-    ),
-    (
-        &[DEP, ALIAS, SYMBOLS, BUILTIN],
-        (
+static NAMES: [TreeRow<'static>; 9] = [
+    TreeRow {
+        rows: &[("modprobe -d /r -S 6.1.0 -R symbol:fa", 0, "a\n", "")],
+        ..FOLDER_FILES
+    },
+    TreeRow {
+        rows: &[("modprobe -d /r -S 6.1.0 -R pci-x:v00001d99", 0, "x\n", "")],
+        ..FOLDER_FILES
+    },
+    TreeRow {
+        rows: &[(
             "modprobe -d /r -S 6.1.0 -R pci-x:v0000ad99",
             1,
             "",
             "kmod: not found pci_x:v0000ad99\n",
-        ),
-    ),
-    (
-        &[DEP_OF_U2, ALIAS, SYMBOLS, BUILTIN, BLACKLIST],
-        ("modprobe -d /r -S 6.1.0 -R usb:v1", 0, "u1\nu3\n", ""),
-    ),
-    (
-        &[DEP_OF_U2, ALIAS, SYMBOLS, BUILTIN, BLACKLIST],
-        ("modprobe -d /r -S 6.1.0 -R u2", 0, "u2\n", ""),
-    ),
-    (
-        &[DEP_OF_U2, ALIAS, SYMBOLS, BUILTIN, BLACKLIST],
-        ("modprobe -d /r -S 6.1.0 -R -b u2", 0, "", ""),
-    ),
-    (
-        &[DEP, ALIAS, SYMBOLS, BUILTIN],
-        (
+        )],
+        ..FOLDER_FILES
+    },
+    TreeRow {
+        rows: &[("modprobe -d /r -S 6.1.0 -R usb:v1", 0, "u1\nu3\n", "")],
+        ..BLACKLISTED
+    },
+    TreeRow {
+        rows: &[("modprobe -d /r -S 6.1.0 -R u2", 0, "u2\n", "")],
+        ..BLACKLISTED
+    },
+    TreeRow {
+        rows: &[("modprobe -d /r -S 6.1.0 -R -b u2", 0, "", "")],
+        ..BLACKLISTED
+    },
+    TreeRow {
+        rows: &[(
             "modprobe -d /r -S 6.1.0 -R -a symbol:fa built usb:v1",
             0,
             "a\nbuilt\nu1\nu2\nu3\n",
             "",
-        ),
-    ),
-    (
-        &[DEP, ALIAS, SYMBOLS, BUILTIN],
-        (
+        )],
+        ..FOLDER_FILES
+    },
+    TreeRow {
+        rows: &[(
             "modprobe -d /r -S 6.1.0 -R -a symbol:fa no-such built",
             1,
             "",
             "kmod: not found no_such\n",
-        ),
-    ),
-    (
-        &[DEP, ALIAS, SYMBOLS, BUILTIN],
-        ("modprobe -d /r -S 6.1.0 -R b no-such=1", 0, "b\n", ""),
-    ),
+        )],
+        ..FOLDER_FILES
+    },
+    TreeRow {
+        rows: &[("modprobe -d /r -S 6.1.0 -R b no-such=1", 0, "b\n", "")],
+        ..FOLDER_FILES
+    },
 ];
 
 /// Configurations, and the names of their aliases: the earlier folder counts.
-static CONFIGURED: [FilesRow; 5] = [
-    (
-        &[FileRow {
+static CONFIGURED: [TreeRow<'static>; 5] = [
+    TreeRow {
+        files: &[FileRow {
             path: "/etc/modprobe.d/a.conf",
             bytes: b"\noptions x\n",
         }],
-        (
+        rows: &[(
             "modprobe -d /r -S 6.1.0 -R a",
             1,
             "",
             "kmod: /etc/modprobe.d/a.conf: bad line 2\n",
-        ),
-    ),
-    (
-        &[
+        )],
+        ..PLAIN
+    },
+    TreeRow {
+        files: &[
             DEP,
             ALIAS,
             SYMBOLS,
@@ -148,10 +155,11 @@ static CONFIGURED: [FilesRow; 5] = [
                 bytes: b"alias z-1 c-2\n",
             },
         ],
-        ("modprobe -d /r -S 6.1.0 -R z-1", 0, "c_2\na\n", ""),
-    ),
-    (
-        &[
+        rows: &[("modprobe -d /r -S 6.1.0 -R z-1", 0, "c_2\na\n", "")],
+        ..PLAIN
+    },
+    TreeRow {
+        files: &[
             DEP,
             ALIAS,
             SYMBOLS,
@@ -165,10 +173,11 @@ static CONFIGURED: [FilesRow; 5] = [
                 bytes: b"alias z b\n",
             },
         ],
-        ("modprobe -d /r -S 6.1.0 -R -C /r/own.conf z", 0, "b\n", ""),
-    ),
-    (
-        &[
+        rows: &[("modprobe -d /r -S 6.1.0 -R -C /r/own.conf z", 0, "b\n", "")],
+        ..PLAIN
+    },
+    TreeRow {
+        files: &[
             DEP,
             ALIAS,
             SYMBOLS,
@@ -182,32 +191,34 @@ static CONFIGURED: [FilesRow; 5] = [
                 bytes: b"alias z a\n",
             },
         ],
-        ("modprobe -d /r -S 6.1.0 -R -C /r/own z", 0, "a\nb\n", ""),
-    ),
-    (
-        &[DEP, ALIAS, SYMBOLS, BUILTIN],
-        (
+        rows: &[("modprobe -d /r -S 6.1.0 -R -C /r/own z", 0, "a\nb\n", "")],
+        ..PLAIN
+    },
+    TreeRow {
+        rows: &[(
             "modprobe -d /r -S 6.1.0 -R -C /r/own a",
             1,
             "",
             "kmod: no file /r/own\n",
-        ),
-    ),
+        )],
+        ..FOLDER_FILES
+    },
 ];
 
 /// Files that aren't understood. The first in the order of work is reported.
-static IN_ORDER: [FilesRow; 4] = [
-    (
-        &[DEP, SYMBOLS],
-        (
+static IN_ORDER: [TreeRow<'static>; 4] = [
+    TreeRow {
+        files: &[DEP, SYMBOLS],
+        rows: &[(
             "modprobe -d /r -S 6.1.0 -R a",
             1,
             "",
             "kmod: no file /r/lib/modules/6.1.0/modules.alias.bin\n",
-        ),
-    ),
-    (
-        &[
+        )],
+        ..PLAIN
+    },
+    TreeRow {
+        files: &[
             DEP,
             ALIAS,
             SYMBOLS,
@@ -221,15 +232,16 @@ static IN_ORDER: [FilesRow; 4] = [
                 bytes: b"\n",
             },
         ],
-        (
+        rows: &[(
             "modprobe -d /r -S 6.1.0 -R a",
             1,
             "",
             "kmod: /r/lib/modules/6.1.0/modules.softdep: bad line 1\n",
-        ),
-    ),
-    (
-        &[
+        )],
+        ..PLAIN
+    },
+    TreeRow {
+        files: &[
             DEP,
             ALIAS,
             SYMBOLS,
@@ -239,63 +251,73 @@ static IN_ORDER: [FilesRow; 4] = [
                 bytes: b"missing kernel/a.ko x\nmissing a\n",
             },
         ],
-        (
+        rows: &[(
             "modprobe -d /r -S 6.1.0 -R --loaded /r/none a",
             1,
             "",
             "kmod: /r/lib/modules/6.1.0/modules.unmet: bad line 2\n",
-        ),
-    ),
-    (
-        &[DEP, ALIAS, SYMBOLS, BUILTIN],
-        (
+        )],
+        ..PLAIN
+    },
+    TreeRow {
+        rows: &[(
             "modprobe -d /r -S 6.1.0 -R --loaded /r/none nosuch",
             1,
             "",
             "kmod: no file /r/none\n",
-        ),
-    ),
+        )],
+        ..FOLDER_FILES
+    },
 ];
 
-/// Indexes in place of modules.dep.bin, and why nothing is looked up.
-static BAD_INDEXES: [(&[u8], &str); 3] = [
-    (
-        FORWARD_CHILD,
-        "kmod: /r/lib/modules/6.1.0/modules.dep.bin: bad index node at 18\n",
-    ),
-    (
-        REACHED_TWICE,
-        "kmod: /r/lib/modules/6.1.0/modules.dep.bin: index node twice at 12\n",
-    ),
-    (
-        CUT_VALUE,
-        "kmod: /r/lib/modules/6.1.0/modules.dep.bin: bad index node at 12\n",
-    ),
+/// Indexes in place of modules.dep.bin, with which nothing is looked up.
+static BAD_INDEXES: [TreeRow<'static>; 3] = [
+    TreeRow {
+        files: &[FileRow {
+            path: "/r/lib/modules/6.1.0/modules.dep.bin",
+            bytes: FORWARD_CHILD,
+        }],
+        rows: &[(
+            "modprobe -d /r -S 6.1.0 -R a",
+            1,
+            "",
+            "kmod: /r/lib/modules/6.1.0/modules.dep.bin: bad index node at 18\n",
+        )],
+        ..PLAIN
+    },
+    TreeRow {
+        files: &[FileRow {
+            path: "/r/lib/modules/6.1.0/modules.dep.bin",
+            bytes: REACHED_TWICE,
+        }],
+        rows: &[(
+            "modprobe -d /r -S 6.1.0 -R a",
+            1,
+            "",
+            "kmod: /r/lib/modules/6.1.0/modules.dep.bin: index node twice at 12\n",
+        )],
+        ..PLAIN
+    },
+    TreeRow {
+        files: &[FileRow {
+            path: "/r/lib/modules/6.1.0/modules.dep.bin",
+            bytes: CUT_VALUE,
+        }],
+        rows: &[(
+            "modprobe -d /r -S 6.1.0 -R a",
+            1,
+            "",
+            "kmod: /r/lib/modules/6.1.0/modules.dep.bin: bad index node at 12\n",
+        )],
+        ..PLAIN
+    },
 ];
-
-/// Runs the words of each row over its files.
-fn expect_rows(rt: &impl Abort, alloc: Global, rows: &[FilesRow]) {
-    for (files, row) in rows {
-        expect_over(rt, alloc, files, Failing::Nothing, *row);
-    }
-}
-
-/// Runs the words over folders with each of the bad indexes.
-fn expect_bad_indexes(rt: &impl Abort, alloc: Global) {
-    for (index, err) in &BAD_INDEXES {
-        let file = FileRow {
-            path: DEP.path,
-            bytes: index,
-        };
-        let row = ("modprobe -d /r -S 6.1.0 -R a", 1, "", *err);
-        expect_over(rt, alloc, &[file], Failing::Nothing, row);
-    }
-}
 
 #[test]
 fn names_stand_for_modules(rt: HostRuntime) {
-    expect_rows(&rt, rt.alloc(), &NAMES);
-    expect_rows(&rt, rt.alloc(), &CONFIGURED);
-    expect_rows(&rt, rt.alloc(), &IN_ORDER);
-    expect_bad_indexes(&rt, rt.alloc());
+    let alloc = rt.alloc();
+    run_trees(alloc, &NAMES).expect(&rt, "names");
+    run_trees(alloc, &CONFIGURED).expect(&rt, "configurations");
+    run_trees(alloc, &IN_ORDER).expect(&rt, "files in the order of work");
+    run_trees(alloc, &BAD_INDEXES).expect(&rt, "bad indexes");
 }

@@ -62,6 +62,11 @@ fn seen(answer: &Result<Blob, FileAnswer>) -> Result<&[u8], FileAnswer> {
     }
 }
 
+/// Stops unless this is so.
+fn holds(rt: &impl Abort, is_so: bool) {
+    assert!(rt; is_so);
+}
+
 /// Compares an answer with the expected bytes or refusal.
 fn expect(rt: &impl Abort, got: Result<&[u8], FileAnswer>, want: Wanted) {
     assert_eq!(rt; got, want);
@@ -96,7 +101,7 @@ fn expect_replaced<F: Files>(
     rows: &[(&[u8], &[u8], Result<(), ReplaceAnswer>)],
 ) {
     for (path, bytes, want) in rows {
-        assert_eq!(rt; replace(files, alloc, path, bytes), *want);
+        holds(rt, replace(files, alloc, path, bytes) == *want);
     }
 }
 
@@ -109,7 +114,7 @@ fn put(rt: &impl Abort, alloc: Global, files: &mut MemFiles, path: &[u8], bytes:
 /// Compares the file at a path with the expected bytes.
 fn expect_held(rt: &impl Abort, alloc: Global, files: &MemFiles, path: &[u8], want: Option<&[u8]>) {
     let path = PathText::from_slice(alloc, path).expect(rt, "a path");
-    assert_eq!(rt; files.get(&path), want);
+    holds(rt, files.get(&path) == want);
 }
 
 /// Makes a call of a kind fail.
@@ -215,9 +220,9 @@ fn an_output_in_memory_keeps_to_its_room(rt: &impl Abort, alloc: Global) {
     let mut out = MemOut::with_room(alloc, 4).expect(rt, "an output");
     out.fail_write(1).expect(rt, "one write more");
     for (piece, taken) in &PIECES {
-        assert_eq!(rt; write(&mut out, piece).is_ok(), *taken);
+        holds(rt, write(&mut out, piece).is_ok() == *taken);
     }
-    assert_eq!(rt; out.bytes(), b"abcd".as_slice());
+    expect(rt, Ok(out.bytes()), Ok(b"abcd"));
 }
 
 #[test]
@@ -248,11 +253,11 @@ static LENGTHS: [usize; 8] = [
 /// Checks what is read of a file of so many bytes.
 fn expect_length(rt: &impl Abort, got: Result<Blob, FileAnswer>, length: usize) {
     match got {
-        Ok(bytes) => assert_eq!(rt; bytes.len(), length),
+        Ok(bytes) => holds(rt, bytes.len() == length),
         Err(answer) => {
             let length = length as u64;
-            assert!(rt; length > FILE_LIMIT as u64);
-            assert_eq!(rt; answer, FileAnswer::TooLarge { length });
+            holds(rt, length > FILE_LIMIT as u64);
+            expect(rt, Err(answer), Err(FileAnswer::TooLarge { length }));
         }
     }
 }
@@ -301,7 +306,7 @@ fn read_into<F: Files>(
 /// Makes the reads of that table.
 fn reread<F: Files>(rt: &impl Abort, files: &mut F, alloc: Global) {
     let mut buffer = FileBuffer::new(alloc);
-    assert!(rt; buffer.as_bytes().is_empty());
+    holds(rt, buffer.as_bytes().is_empty());
     for (path, want) in &REREAD {
         match read_into(files, alloc, path, &mut buffer) {
             Ok(()) => expect(rt, Ok(buffer.as_bytes()), *want),
@@ -430,8 +435,8 @@ fn real_files_are_replaced_whole_or_not_at_all(rt: HostRuntime) {
     expect_replaced(&rt, alloc, &mut files, &REAL_REPLACED[3..4]);
     expect_reads(&rt, alloc, &mut files, &REAL_NEW[..2]);
     let (is_file, bits) = kinds(&rt).expect(&rt, "kinds");
-    assert!(rt; is_file);
-    assert_eq!(rt; bits, 0);
+    holds(&rt, is_file);
+    holds(&rt, bits == 0);
     expect_replaced(&rt, alloc, &mut files, &REAL_REPLACED[4..]);
     expect_trees(&rt, alloc, &mut files, &REAL_LEFT);
     expect_reads(&rt, alloc, &mut files, &REAL_NEW[1..2]);
@@ -439,6 +444,6 @@ fn real_files_are_replaced_whole_or_not_at_all(rt: HostRuntime) {
 
 #[test]
 fn standard_outputs_take_a_text(rt: HostRuntime) {
-    assert!(rt; write(&mut StdOut::new(rt.stdout()), b"out\n").is_ok());
-    assert!(rt; write(&mut StdErr::new(rt.stderr()), b"err\n").is_ok());
+    holds(&rt, write(&mut StdOut::new(rt.stdout()), b"out\n").is_ok());
+    holds(&rt, write(&mut StdErr::new(rt.stderr()), b"err\n").is_ok());
 }

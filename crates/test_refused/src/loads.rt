@@ -1,46 +1,38 @@
 //! A load and removals, in which an allocation may be refused.
 
-use crate::machines::{
-    BASE, Prepared, expect_shown, holds, load, machine_with, module_of, same, shown,
-};
+use crate::machines::{BASE, expect_shown, holds, load, machine_of, module_of, same, shown};
 use model_loader::{LoadFault, LoadedAt, Machine};
 use model_unload::{UnloadFault, unload};
 use module_facts::Module;
 use std::alloc::Global;
 use std::process::Abort;
-use test_objects::{GIVES, NEEDS, object_of};
+use test_objects::{GIVES, NEEDS, SheetRow, object_of};
 
-/// Reads `a`.
-fn module_a(rt: &impl Abort, alloc: Global) -> Option<Module> {
-    let bytes = object_of(alloc, &GIVES).ok()?;
-    module_of(rt, alloc, b"kernel/a.ko", bytes)
+/// Reads the module of a sheet at a path.
+fn read_once(rt: &impl Abort, alloc: Global, path: &[u8], row: &SheetRow) -> Option<Module> {
+    let bytes = object_of(alloc, row).ok()?;
+    module_of(rt, alloc, path, bytes)
 }
 
-/// Reads `b`, which needs `a`.
-fn module_b(rt: &impl Abort, alloc: Global) -> Option<Module> {
-    let bytes = object_of(alloc, &NEEDS).ok()?;
-    module_of(rt, alloc, b"kernel/b.ko", bytes)
-}
-
-/// Makes a machine with `a`, and `b`.
-fn prepared_over(rt: &impl Abort, alloc: Global, a: &Module) -> Option<Prepared> {
-    let module = module_b(rt, alloc)?;
-    let machine = machine_with(alloc, a)?;
-    Some(Prepared { machine, module })
-}
-
-/// Makes a machine with `a`, and `b`, which needs it.
-fn prepared_once(rt: &impl Abort, alloc: Global) -> Option<Prepared> {
-    let a = module_a(rt, alloc)?;
-    prepared_over(rt, alloc, &a)
-}
-
-/// Makes a machine with `a`, and `b`, which needs it. One allocation of it may be refused.
-fn prepared(rt: &impl Abort, alloc: Global) -> Prepared {
-    match prepared_once(rt, alloc) {
-        Some(made) => made,
-        None => prepared_once(rt, alloc).expect(rt, "a machine"),
+/// Reads the module of a sheet at a path. One allocation of it may be refused.
+fn read(rt: &impl Abort, alloc: Global, path: &[u8], row: &SheetRow) -> Module {
+    match read_once(rt, alloc, path, row) {
+        Some(module) => module,
+        None => read_once(rt, alloc, path, row).expect(rt, "a module"),
     }
+}
+
+/// Makes a machine with `a`. One allocation of it may be refused.
+fn machine_with_a(rt: &impl Abort, alloc: Global) -> Machine {
+    let a = read(rt, alloc, b"kernel/a.ko", &GIVES);
+    let machine = machine_of(rt, alloc, &a);
+    drop(a);
+    machine
+}
+
+/// Reads `b`, which needs `a`. One allocation of it may be refused.
+fn module_b(rt: &impl Abort, alloc: Global) -> Module {
+    read(rt, alloc, b"kernel/b.ko", &NEEDS)
 }
 
 /// Stops unless a load is out of memory.
@@ -48,31 +40,45 @@ fn expect_memory(rt: &impl Abort, fault: &LoadFault) {
     holds(rt, matches!(fault, LoadFault::Memory));
 }
 
-/// Loads the module. If that is out of memory, the machine is as it was before, and the module is
+/// Loads a module. If that is out of memory, the machine is as it was before, and the module is
 /// loaded then.
-fn loaded(rt: &impl Abort, alloc: Global, prepared: &mut Prepared, before: &[u8]) -> LoadedAt {
-    match load(&mut prepared.machine, &prepared.module) {
+fn loaded(
+    rt: &impl Abort,
+    alloc: Global,
+    machine: &mut Machine,
+    module: &Module,
+    before: &[u8],
+) -> LoadedAt {
+    match load(machine, module) {
         Ok(at) => at,
         Err(fault) => {
             expect_memory(rt, &fault);
-            expect_shown(rt, alloc, &prepared.machine, before);
-            load(&mut prepared.machine, &prepared.module).expect(rt, "a load")
+            expect_shown(rt, alloc, machine, before);
+            load(machine, module).expect(rt, "a load")
         }
     }
 }
 
-fn a_load_changes_nothing_if_refused(rt: &impl Abort, alloc: Global, prepared: &mut Prepared) {
-    let before = shown(rt, alloc, &prepared.machine);
-    let at = loaded(rt, alloc, prepared, before.as_slice());
+fn a_load_changes_nothing_if_refused(
+    rt: &impl Abort,
+    alloc: Global,
+    machine: &mut Machine,
+    b: &Module,
+) {
+    let before = shown(rt, alloc, machine);
+    let at = loaded(rt, alloc, machine, b, before.as_slice());
     holds(rt, at.base == BASE + 0x2000 && at.size == 0x1000);
-    let after = shown(rt, alloc, &prepared.machine);
+    let after = shown(rt, alloc, machine);
     expect_only_b_more(rt, before.as_slice(), after.as_slice());
 }
 
 #[test]
 fn a_refused_load_changes_nothing(rt: HostRuntime) {
-    let mut prepared = prepared(&rt, rt.alloc());
-    a_load_changes_nothing_if_refused(&rt, rt.alloc(), &mut prepared);
+    let mut machine = machine_with_a(&rt, rt.alloc());
+    let b = module_b(&rt, rt.alloc());
+    a_load_changes_nothing_if_refused(&rt, rt.alloc(), &mut machine, &b);
+    drop(b);
+    drop(machine);
 }
 
 /// Stops unless what is seen afterwards is what was seen before, and then `b`.
@@ -95,10 +101,10 @@ fn take_out(machine: &mut Machine, name: &[u8]) -> Result<(), UnloadFault> {
     unload(machine, name)
 }
 
-fn modules_are_taken_out(rt: &impl Abort, alloc: Global, prepared: &mut Prepared) {
-    let with_a = shown(rt, alloc, &prepared.machine);
-    loaded(rt, alloc, prepared, with_a.as_slice());
-    take_out_both(rt, alloc, &mut prepared.machine, with_a.as_slice());
+fn modules_are_taken_out(rt: &impl Abort, alloc: Global, machine: &mut Machine, b: &Module) {
+    let with_a = shown(rt, alloc, machine);
+    loaded(rt, alloc, machine, b, with_a.as_slice());
+    take_out_both(rt, alloc, machine, with_a.as_slice());
 }
 
 /// Takes `b` out, and then `a`.
@@ -114,8 +120,11 @@ fn take_out_both(rt: &impl Abort, alloc: Global, machine: &mut Machine, with_a: 
 
 #[test]
 fn removals_want_no_memory(rt: HostRuntime) {
-    let mut prepared = prepared(&rt, rt.alloc());
-    modules_are_taken_out(&rt, rt.alloc(), &mut prepared);
+    let mut machine = machine_with_a(&rt, rt.alloc());
+    let b = module_b(&rt, rt.alloc());
+    modules_are_taken_out(&rt, rt.alloc(), &mut machine, &b);
+    drop(b);
+    drop(machine);
 }
 
 /// Stops unless `a` stays, which `b` uses, and no module `c` is known.

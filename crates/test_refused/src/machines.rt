@@ -12,13 +12,6 @@ use std::process::Abort;
 /// The usual base of the region of modules.
 pub(crate) const BASE: u64 = 0xffff_ffff_c000_0000;
 
-/// A machine, and a module that is loaded, or is to be loaded next.
-#[derive(Drop)]
-pub(crate) struct Prepared {
-    pub(crate) machine: Machine,
-    pub(crate) module: Module,
-}
-
 // What prepares a test gives nothing if it is out of memory.
 
 /// Returns the usual kernel: it exports `printk`.
@@ -31,12 +24,20 @@ fn usual_kernel(alloc: Global) -> Option<Kernel> {
 }
 
 /// Returns a machine of the usual kernel with a module.
-pub(crate) fn machine_with(alloc: Global, module: &Module) -> Option<Machine> {
+fn machine_with(alloc: Global, module: &Module) -> Option<Machine> {
     let region = Region::new(BASE, 0x10_0000)?;
     let kernel = usual_kernel(alloc)?;
     let mut machine = Machine::new(alloc, kernel, region).ok()?;
     let is_loaded = load(&mut machine, module).is_ok();
     is_loaded.then_some(machine)
+}
+
+/// Returns a machine of the usual kernel with a module. One allocation of it may be refused.
+pub(crate) fn machine_of(rt: &impl Abort, alloc: Global, module: &Module) -> Machine {
+    match machine_with(alloc, module) {
+        Some(machine) => machine,
+        None => machine_with(alloc, module).expect(rt, "a machine"),
+    }
 }
 
 /// Reads the module of these bytes at a path.
@@ -98,5 +99,5 @@ pub(crate) fn holds(rt: &impl Abort, is_so: bool)
 
 /// Stops unless these are the same bytes.
 pub(crate) fn same(rt: &impl Abort, got: &[u8], want: &[u8]) {
-    assert_eq!(rt; got, want);
+    holds(rt, got == want);
 }

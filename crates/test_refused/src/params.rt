@@ -1,8 +1,9 @@
 //! Options that are written into a copy of an image, while an allocation may be refused.
 
-use crate::machines::{BASE, Prepared, expect_shown, holds, machine_with, module_of, same, shown};
+use crate::machines::{BASE, expect_shown, holds, machine_of, module_of, same, shown};
 use image_layout::image_size;
 use km_names::{List, Name};
+use model_loader::Machine;
 use module_facts::Module;
 use param_apply::{ParamFault, Params, apply_params};
 use std::alloc::{AllocError, Global};
@@ -31,33 +32,31 @@ fn two_params(alloc: Global) -> Result<SheetParams, AllocError> {
 }
 
 /// Reads the module of these parameters.
-fn module_p(rt: &impl Abort, alloc: Global) -> Option<Module> {
+fn read_once(rt: &impl Abort, alloc: Global) -> Option<Module> {
     let params = two_params(alloc).ok()?;
     let bytes = param_object(alloc, &params).ok()?;
     module_of(rt, alloc, b"kernel/p.ko", bytes)
 }
 
-/// Makes a machine with the module of these parameters.
-fn prepared_once(rt: &impl Abort, alloc: Global) -> Option<Prepared> {
-    let module = module_p(rt, alloc)?;
-    let machine = machine_with(alloc, &module)?;
-    Some(Prepared { machine, module })
-}
-
-/// Makes a machine with the module of these parameters. One allocation of it may be refused.
-fn prepared(rt: &impl Abort, alloc: Global) -> Prepared {
-    match prepared_once(rt, alloc) {
-        Some(made) => made,
-        None => prepared_once(rt, alloc).expect(rt, "a machine"),
+/// Reads the module of these parameters. One allocation of it may be refused.
+fn module_p(rt: &impl Abort, alloc: Global) -> Module {
+    match read_once(rt, alloc) {
+        Some(module) => module,
+        None => read_once(rt, alloc).expect(rt, "a module"),
     }
 }
 
 /// Writes options into a copy of the module's image.
-fn applied(rt: &impl Abort, alloc: Global, prepared: &Prepared) -> Result<Params, ParamFault> {
-    let image = prepared.machine.image(b"p").expect(rt, "an image");
-    let size = image_size(&prepared.module.object);
+fn applied(
+    rt: &impl Abort,
+    alloc: Global,
+    machine: &Machine,
+    p: &Module,
+) -> Result<Params, ParamFault> {
+    let image = machine.image(b"p").expect(rt, "an image");
+    let size = image_size(&p.object);
     holds(rt, image.len() as u128 == size);
-    apply_params(alloc, &prepared.module, BASE, image, b"depth=3 raw")
+    apply_params(alloc, p, BASE, image, b"depth=3 raw")
 }
 
 /// Stops unless the options are out of memory.
@@ -67,29 +66,38 @@ fn expect_memory(rt: &impl Abort, fault: &ParamFault) {
 
 /// Writes options into a copy of the module's image. If that is out of memory, the machine is as it
 /// was before, and the options are written then.
-fn applied_at_last(rt: &impl Abort, alloc: Global, prepared: &Prepared, before: &[u8]) -> Params {
-    match applied(rt, alloc, prepared) {
+fn applied_at_last(
+    rt: &impl Abort,
+    alloc: Global,
+    machine: &Machine,
+    p: &Module,
+    before: &[u8],
+) -> Params {
+    match applied(rt, alloc, machine, p) {
         Ok(params) => params,
         Err(fault) => {
             expect_memory(rt, &fault);
-            expect_shown(rt, alloc, &prepared.machine, before);
-            applied(rt, alloc, prepared).expect(rt, "parameters")
+            expect_shown(rt, alloc, machine, before);
+            applied(rt, alloc, machine, p).expect(rt, "parameters")
         }
     }
 }
 
-fn parameters_change_nothing(rt: &impl Abort, alloc: Global, prepared: &Prepared) {
-    let before = shown(rt, alloc, &prepared.machine);
-    let params = applied_at_last(rt, alloc, prepared, before.as_slice());
+fn parameters_change_nothing(rt: &impl Abort, alloc: Global, machine: &Machine, p: &Module) {
+    let before = shown(rt, alloc, machine);
+    let params = applied_at_last(rt, alloc, machine, p, before.as_slice());
     holds(rt, params.count == 2);
     expect_values(rt, params.image.as_bytes());
-    expect_shown(rt, alloc, &prepared.machine, before.as_slice());
+    expect_shown(rt, alloc, machine, before.as_slice());
 }
 
 #[test]
 fn refused_parameters_change_nothing(rt: HostRuntime) {
-    let prepared = prepared(&rt, rt.alloc());
-    parameters_change_nothing(&rt, rt.alloc(), &prepared);
+    let p = module_p(&rt, rt.alloc());
+    let machine = machine_of(&rt, rt.alloc(), &p);
+    parameters_change_nothing(&rt, rt.alloc(), &machine, &p);
+    drop(machine);
+    drop(p);
 }
 
 /// Stops unless an image has the values, with the names behind them.

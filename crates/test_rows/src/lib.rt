@@ -1,22 +1,26 @@
 //! Rows of whole commands, for the crates of tests that run these. A row has the modules and files
-//! before a command, its words, and the status, the output and the lines on err that come out.
-//! `Objects` has the files and outputs that a command is run over, and the files as they are to be
-//! after it.
+//! before a command, its words, and the status, the output, the lines on err and the files that come
+//! out. `run_trees` runs rows, each over files and outputs of its own, and says what differs from
+//! what a row says.
 //!
-//! It builds on `outside_calls` for files and outputs in memory, on `km_names` for paths and words,
-//! and on `test_objects` for modules. No command is called here.
+//! It builds on `kmod_cli` for the commands, on `km_outside` for files and outputs in memory, on
+//! `km_names` for paths and words, and on `test_objects` for modules.
 #![tactic(auto)]
 
+mod difference;
 mod file_system;
 mod images;
 mod listed;
 mod objects;
 mod row;
+mod runs;
 
+pub use difference::{Difference, compare_all};
 pub use file_system::{FILE_SYSTEM, FILE_SYSTEM_KERNEL};
 pub use images::image;
-pub use objects::{FOLDER, Objects, objects_with, path_in, words_of};
+pub use objects::{Objects, words_of};
 pub use row::{
-    EXTRA, Failing, FileRow, INDEX, INDEXED, IndexedRow, ModuleRow, Row, RowOf, SYMVERS,
-    SYSTEM_MAP, TWO, USAGE,
+    EXTRA, Failing, FileRow, INDEX, INDEXED, ImageRow, ModuleRow, PLAIN, Row, RowOf, SYMVERS,
+    SYSTEM_MAP, TWO, TreeRow, USAGE,
 };
+pub use runs::{run_first, run_next, run_over, run_tree, run_trees};

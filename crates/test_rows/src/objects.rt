@@ -1,13 +1,26 @@
 // What a command is handed, and what it leaves.
+use crate::images::image;
 use crate::listed::paths_of;
-use crate::row::{Failing, FileRow, ModuleRow};
+use crate::row::{FOLDER, Failing, FileRow, ImageRow, ModuleRow, TreeRow};
 use km_names::{List, PathText, Paths, Word, join};
 use outside_calls::{FileAnswer, MemFiles, MemOut};
 use std::alloc::{AllocError, Global};
 use test_objects::{MoreRow, RowFault, SheetRow, object_with};
 
-/// The folder of a kernel's modules.
-pub const FOLDER: &[u8] = b"/r/lib/modules/6.1.0";
+/// The names of the files of depmod, in the order in which they are replaced.
+static NAMES: [&[u8]; 11] = [
+    b"modules.dep",
+    b"modules.dep.bin",
+    b"modules.alias",
+    b"modules.alias.bin",
+    b"modules.softdep",
+    b"modules.symbols",
+    b"modules.symbols.bin",
+    b"modules.builtin.bin",
+    b"modules.unmet",
+    b"modules.builtin.alias.bin",
+    b"modules.devname",
+];
 
 /// The objects that a command is handed, what the files are to be after it, and the status that the
 /// last one answered.
@@ -37,69 +50,39 @@ impl Objects {
         })
     }
 
-    /// Puts a file, which is to stay. The only error is out of memory.
-    pub fn put(&mut self, path: &PathText, bytes: &[u8]) -> Result<(), AllocError> {
-        self.files.put(path, bytes)?;
-        self.wanted.put(path, bytes)
-    }
-
-    /// Puts files that are written out, which are to stay. The only error is out of memory.
-    pub fn put_files(&mut self, alloc: Global, files: &[FileRow<'_>]) -> Result<(), AllocError> {
-        for file in files {
-            let path = PathText::from_slice(alloc, file.path.as_bytes())?;
-            self.put(&path, file.bytes)?;
+    /// Puts the modules and other files of a tree, with the old index if there is one, and sets
+    /// what fails. It is refused if a module isn't a sheet.
+    pub fn fill(&mut self, alloc: Global, tree: &TreeRow<'_>) -> Result<(), RowFault> {
+        self.put_modules(alloc, tree.modules)?;
+        self.put_files(alloc, tree.files)?;
+        if tree.is_old {
+            self.put_old(alloc)?;
         }
-        Ok(())
+        Ok(self.set_failing(tree.failing)?)
     }
 
-    /// Puts the object of a sheet at a path in a folder, which is to stay. It is refused if it
-    /// isn't a sheet.
-    pub fn put_object(
-        &mut self,
-        alloc: Global,
-        (folder, path): (&[u8], &str),
-        (sheet, more): (&SheetRow, &MoreRow),
-    ) -> Result<(), RowFault> {
-        let object = object_with(alloc, sheet, more)?;
-        let path = path_in(alloc, folder, path.as_bytes())?;
-        Ok(self.put(&path, object.as_bytes())?)
-    }
-
-    /// Puts modules into the folder of the kernel, which are to stay. They are refused if one isn't
-    /// a sheet.
+    /// Puts modules, which are to stay. They are refused if one isn't a sheet.
     pub fn put_modules(
         &mut self,
         alloc: Global,
         modules: &[ModuleRow<'_>],
     ) -> Result<(), RowFault> {
         for (path, sheet, more) in modules {
-            self.put_object(alloc, (FOLDER, path), (sheet, more))?;
+            self.put_module(alloc, path, (sheet, more))?;
         }
         Ok(())
     }
 
-    /// Makes fail what a row says. The only error is out of memory.
-    pub fn set_failing(&mut self, failing: Failing) -> Result<(), AllocError> {
-        match failing {
-            Failing::Nothing => Ok(()),
-            Failing::Call(kind, number) => self.files.fail_call(kind, u64::from(number)),
-            Failing::Write(number) => self.out.fail_write(u64::from(number)),
-            Failing::Line(number) => self.err.fail_write(u64::from(number)),
-        }
-    }
-
-    /// Wants files that are written out. The only error is out of memory.
-    pub fn want_files(&mut self, alloc: Global, files: &[FileRow<'_>]) -> Result<(), AllocError> {
-        for file in files {
-            let path = PathText::from_slice(alloc, file.path.as_bytes())?;
-            self.wanted.put(&path, file.bytes)?;
-        }
-        Ok(())
+    /// Wants the files that the rows of a tree leave. The only error is out of memory.
+    pub fn want_after(&mut self, alloc: Global, tree: &TreeRow<'_>) -> Result<(), AllocError> {
+        self.want_index(alloc, tree)?;
+        self.want_files(alloc, tree.after)?;
+        self.want_images(alloc, tree.images)
     }
 
     /// Wants the files as they are. A listing that was to fail fails here once. The only error is
     /// out of memory.
-    pub fn want_all(&mut self, alloc: Global) -> Result<(), FileAnswer> {
+    pub(crate) fn want_all(&mut self, alloc: Global) -> Result<(), FileAnswer> {
         let paths = paths_of(alloc, &mut self.files)?;
         for path in paths.as_slice() {
             if let Some(bytes) = self.files.get(path) {
@@ -112,13 +95,88 @@ impl Objects {
     /// Returns the path of the first file that isn't as it is to be, if there is one: of those that
     /// are there, and then of those that are wanted. A listing that was to fail fails here once.
     /// The only error is out of memory.
-    pub fn differing(&mut self, alloc: Global) -> Result<Option<PathText>, FileAnswer> {
+    pub(crate) fn differing(&mut self, alloc: Global) -> Result<Option<PathText>, FileAnswer> {
         let paths = paths_of(alloc, &mut self.files)?;
         if let Some(path) = self.other_of(alloc, &paths)? {
             return Ok(Some(path));
         }
         let paths = paths_of(alloc, &mut self.wanted)?;
         Ok(self.other_of(alloc, &paths)?)
+    }
+
+    /// Puts a file, which is to stay. The only error is out of memory.
+    fn put(&mut self, path: &PathText, bytes: &[u8]) -> Result<(), AllocError> {
+        self.files.put(path, bytes)?;
+        self.wanted.put(path, bytes)
+    }
+
+    /// Puts files that are written out, which are to stay. The only error is out of memory.
+    fn put_files(&mut self, alloc: Global, files: &[FileRow<'_>]) -> Result<(), AllocError> {
+        for file in files {
+            let path = PathText::from_slice(alloc, file.path.as_bytes())?;
+            self.put(&path, file.bytes)?;
+        }
+        Ok(())
+    }
+
+    /// Puts the module of a sheet. It is refused if it isn't a sheet.
+    fn put_module(
+        &mut self,
+        alloc: Global,
+        path: &str,
+        (sheet, more): (&SheetRow, &MoreRow),
+    ) -> Result<(), RowFault> {
+        let path = module_path(alloc, path.as_bytes())?;
+        let object = object_with(alloc, sheet, more)?;
+        Ok(self.put(&path, object.as_bytes())?)
+    }
+
+    /// Puts an index, each file of which has the bytes `old` and is to stay. The only error is out
+    /// of memory.
+    fn put_old(&mut self, alloc: Global) -> Result<(), AllocError> {
+        for name in &NAMES {
+            let path = path_in(alloc, FOLDER, name)?;
+            self.put(&path, b"old")?;
+        }
+        Ok(())
+    }
+
+    /// Makes fail what a row says. The only error is out of memory.
+    fn set_failing(&mut self, failing: Failing) -> Result<(), AllocError> {
+        match failing {
+            Failing::Nothing => Ok(()),
+            Failing::Call(kind, number) => self.files.fail_call(kind, u64::from(number)),
+            Failing::Write(number) => self.out.fail_write(u64::from(number)),
+            Failing::Line(number) => self.err.fail_write(u64::from(number)),
+        }
+    }
+
+    /// Wants files that are written out. The only error is out of memory.
+    fn want_files(&mut self, alloc: Global, files: &[FileRow<'_>]) -> Result<(), AllocError> {
+        for file in files {
+            let path = PathText::from_slice(alloc, file.path.as_bytes())?;
+            self.wanted.put(&path, file.bytes)?;
+        }
+        Ok(())
+    }
+
+    /// Wants the first files of an index, which a row replaces. The only error is out of memory.
+    fn want_index(&mut self, alloc: Global, tree: &TreeRow<'_>) -> Result<(), AllocError> {
+        for (name, bytes) in NAMES.iter().zip(tree.index).take(tree.replaced) {
+            let path = path_in(alloc, tree.folder, name)?;
+            self.wanted.put(&path, bytes)?;
+        }
+        Ok(())
+    }
+
+    /// Wants images. The only error is out of memory.
+    fn want_images(&mut self, alloc: Global, images: &[ImageRow<'_>]) -> Result<(), AllocError> {
+        for row in images {
+            let path = PathText::from_slice(alloc, row.path.as_bytes())?;
+            let bytes = image(alloc, row.length, row.pieces)?;
+            self.wanted.put(&path, bytes.as_slice())?;
+        }
+        Ok(())
     }
 
     /// Returns the first of these paths whose file isn't as it is to be.
@@ -132,38 +190,6 @@ impl Objects {
     }
 }
 
-/// Returns the objects of a row: its modules and other files, and what fails. It is refused if a
-/// module isn't a sheet.
-pub fn objects_with(
-    alloc: Global,
-    modules: &[ModuleRow<'_>],
-    files: &[FileRow<'_>],
-    failing: Failing,
-) -> Result<Objects, RowFault> {
-    let mut objects = Objects::new(alloc)?;
-    fill(alloc, &mut objects, modules, files, failing)?;
-    Ok(objects)
-}
-
-/// Puts the modules and other files of a row, and sets what fails.
-fn fill(
-    alloc: Global,
-    objects: &mut Objects,
-    modules: &[ModuleRow<'_>],
-    files: &[FileRow<'_>],
-    failing: Failing,
-) -> Result<(), RowFault> {
-    objects.put_modules(alloc, modules)?;
-    objects.put_files(alloc, files)?;
-    Ok(objects.set_failing(failing)?)
-}
-
-/// Returns the path of a file in a folder. The only error is out of memory.
-pub fn path_in(alloc: Global, folder: &[u8], name: &[u8]) -> Result<PathText, AllocError> {
-    let folder = PathText::from_slice(alloc, folder)?;
-    join(alloc, &folder, name)
-}
-
 /// Returns the words of a text, with one space between each and the next. An empty text has none.
 /// The only error is out of memory.
 pub fn words_of(alloc: Global, text: &str) -> Result<List<Word>, AllocError> {
@@ -174,4 +200,19 @@ pub fn words_of(alloc: Global, text: &str) -> Result<List<Word>, AllocError> {
         }
     }
     Ok(words)
+}
+
+/// Returns the path of a file in a folder. The only error is out of memory.
+fn path_in(alloc: Global, folder: &[u8], name: &[u8]) -> Result<PathText, AllocError> {
+    let folder = PathText::from_slice(alloc, folder)?;
+    join(alloc, &folder, name)
+}
+
+/// Returns the path of a module: it begins with a `/`, or is one in the folder of the kernel.
+fn module_path(alloc: Global, path: &[u8]) -> Result<PathText, AllocError> {
+    if path.starts_with(b"/") {
+        PathText::from_slice(alloc, path)
+    } else {
+        path_in(alloc, FOLDER, path)
+    }
 }

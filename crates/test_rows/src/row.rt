@@ -2,6 +2,9 @@
 use outside_calls::CallKind;
 use test_objects::{GIVES, MoreRow, NEEDS, NO_MORE, SheetRow};
 
+/// The folder of a kernel's modules.
+pub(crate) const FOLDER: &[u8] = b"/r/lib/modules/6.1.0";
+
 /// Words with a space between each and the next, the status that they are to answer, and what they
 /// are to write to the output and to err.
 pub type RowOf<'a> = (&'a str, u8, &'a str, &'a str);
@@ -22,7 +25,8 @@ pub struct FileRow<'a> {
     pub bytes: &'a [u8],
 }
 
-/// A module of a tree: its path in the tree, its sheet, and what more its object is to have.
+/// A module: its path in the tree or, with a `/` first, from the root; its sheet; and what more its
+/// object is to have.
 pub type ModuleRow<'a> = (&'a str, &'a SheetRow, &'a MoreRow);
 
 /// What is made to fail. Calls of each kind are counted on their own, from 0.
@@ -62,32 +66,66 @@ pub const INDEX: &str = "depmod -b /r -E /r/Module.symvers 6.1.0";
 /// The words that index it with the two other files.
 pub const EXTRA: &str = "depmod --extra -b /r -E /r/Module.symvers 6.1.0";
 
-/// Commands over a tree that depmod indexed: each row over files of its own.
+/// An image that is expected after a command: zeros but for some bytes.
 #[derive(Clone, Copy)]
-pub struct IndexedRow<'a> {
+pub struct ImageRow<'a> {
+    /// Its path.
+    pub path: &'a str,
+    /// How many bytes it has.
+    pub length: usize,
+    /// Its other bytes, each piece of them with the place where it begins.
+    pub pieces: &'a [(usize, &'a [u8])],
+}
+
+/// Commands over a tree: each row over files of its own.
+#[derive(Clone, Copy)]
+pub struct TreeRow<'a> {
     /// What the rows show, or nothing if their words do.
     pub name: &'a str,
     /// The modules of the tree.
     pub modules: &'a [ModuleRow<'a>],
     /// The other files.
     pub files: &'a [FileRow<'a>],
-    /// What fails, counted from the first call of depmod's.
+    /// Whether there is an index before, each file of which has the bytes `old`.
+    pub is_old: bool,
+    /// What fails, counted from the first call of the first command's.
     pub failing: Failing,
-    /// The words that index the tree. They are to be done, and to write nothing.
+    /// The words that index the tree, or nothing. They are to be done, and to write nothing. What
+    /// they leave is to stay, but for the files below.
     pub first: &'a str,
     /// The words, and what they are to result in.
     pub rows: &'a [RowOf<'a>],
-    /// The files that are to be there afterwards. All others are to be as depmod left them.
+    /// The folder of the index that the words leave.
+    pub folder: &'a [u8],
+    /// The files of that index, in the order in which they are replaced.
+    pub index: &'a [&'a [u8]],
+    /// How many of them are replaced.
+    pub replaced: usize,
+    /// Other files that are to be there afterwards.
     pub after: &'a [FileRow<'a>],
+    /// The images that are to be there afterwards.
+    pub images: &'a [ImageRow<'a>],
 }
 
-/// The usual table, and no modules.
-pub const INDEXED: IndexedRow<'static> = IndexedRow {
+/// Files alone, which no row changes.
+pub const PLAIN: TreeRow<'static> = TreeRow {
     name: "",
     modules: &[],
-    files: &[SYMVERS],
+    files: &[],
+    is_old: false,
     failing: Failing::Nothing,
-    first: INDEX,
+    first: "",
     rows: &[],
+    folder: FOLDER,
+    index: &[],
+    replaced: 0,
     after: &[],
+    images: &[],
+};
+
+/// The usual table and no modules, indexed. No row changes a file.
+pub const INDEXED: TreeRow<'static> = TreeRow {
+    files: &[SYMVERS],
+    first: INDEX,
+    ..PLAIN
 };

@@ -16,12 +16,13 @@ pub(crate) fn holds(rt: &impl Abort, is_so: bool)
 
 /// Stops unless these are the same bytes.
 pub(crate) fn same(rt: &impl Abort, got: &[u8], want: &[u8]) {
-    assert_eq!(rt; got, want);
+    holds(rt, got == want);
 }
 
-/// Stops unless a value is shown as this text, which has its fields by their names. It drops the
-/// value.
+/// Stops unless a value is shown as this text, which has its fields by their names; what it is
+/// shown as is then the message. It drops the value.
 pub(crate) fn shown<T: Debug + Drop>(rt: &impl Abort, alloc: Global, got: T, want: &str) {
     let text = format!(in alloc; "{got:?}").expect(rt, "a text");
-    assert_eq!(rt; text.as_str(), want);
+    let is_same = text.as_str() == want;
+    is_same.then_some(()).expect(rt, text.as_str());
 }

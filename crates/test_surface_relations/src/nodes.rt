@@ -1,13 +1,17 @@
 //! Device nodes, their text, and its reader.
 
-use crate::lists::path;
 use crate::same::{holds, shown};
 use devname_nodes::{NodeList, nodes, nodes_text, read_nodes};
-use km_names::{Blob, ConfFault, Name, Names, Texts};
+use km_names::{Blob, ConfFault, Name, Names, PathText, Texts};
 use module_facts::{Exports, Facts, Needs};
 use provider_rel::TreeFacts;
 use std::alloc::Global;
 use std::process::Abort;
+
+/// Returns a path.
+fn path(rt: &impl Abort, alloc: Global, text: &[u8]) -> PathText {
+    PathText::from_slice(alloc, text).expect(rt, "a path")
+}
 
 /// Returns the aliases of `fuse`, which state its device and its number.
 fn aliases_of_fuse(rt: &impl Abort, alloc: Global) -> Texts {

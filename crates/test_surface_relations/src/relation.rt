@@ -1,110 +1,19 @@
-//! The tree of a folder, the kernel's table, the relation of a tree and depmod's files.
-ghost use Rattle.std.specs.Prelude.{◌≡◌, ◌≤◌, ◌==◌, [], ◌∷◌, not, length, All, AllPairs};
+//! The kernel's table, the relation of a tree and depmod's files.
+ghost use Rattle.std.specs.Prelude.{◌≡◌, ◌==◌, [], ◌∷◌, not, length, All, AllPairs};
 ghost use Rattle.std.specs.Prelude.{IfOk, IsTrue};
 ghost use Rattle.std.specs.List.{list_any};
 ghost use Rattle.km_names.specs.Ascii.{is_graphic};
-ghost use Rattle.km_names.specs.Limit.{file_limit};
 ghost use Rattle.provider_rel.specs.Seen.{closures_by};
 ghost use Rattle.provider_rel.specs.Tree.{IsTree, IsTreeModule};
 ghost use Rattle.depmod_core.specs.Files.{IsRelationOf};
 
-use crate::lists::{names, paths};
-use crate::same::{holds, same, shown};
+use crate::same::{holds, shown};
 use depmod_core::{OutputFault, OutputFiles, outputs};
-use km_names::{
-    ConfFault, ConfFile, ConfFiles, List, Name, Names, PathText, Texts, TreeIndex, is_graphic,
-};
-use mod_tree::{Search, Tree, TreeFault, choose, parse_search};
+use km_names::{List, Name, Names, PathText, Texts, TreeIndex, is_graphic};
 use module_facts::{Export, Exports, Facts, Need, Needs};
 use provider_rel::{Kernel, KernelExports, KernelFault, Relation, RelationFault, TreeFacts, agree};
 use std::alloc::Global;
 use std::process::Abort;
-use test_objects::conf_file;
-
-/// Returns a file of configuration.
-fn configuration(rt: &impl Abort, alloc: Global, text: &[u8]) -> ConfFile
-    ensures { length result.bytes ≤ file_limit }
-{
-    conf_file(alloc, b"/e/a.conf", text).expect(rt, "a file")
-}
-
-/// Makes a configuration of one file.
-pub(crate) fn one_file(rt: &impl Abort, alloc: Global, text: &[u8]) -> ConfFiles
-    ensures { All (λ file. length file.bytes ≤ file_limit) result }
-{
-    only(rt, alloc, configuration(rt, alloc, text))
-}
-
-/// Reads the search list of a configuration of one file.
-fn search_of(rt: &impl Abort, alloc: Global, text: &[u8]) -> Result<Search, ConfFault> {
-    let files = one_file(rt, alloc, text);
-    parse_search(alloc, &files)
-}
-
-/// Configurations, and their search lists.
-static SEARCHES: [(&[u8], &str); 3] = [
-    (b"", r#"Ok(List { elements: ["updates", "built-in"] })"#),
-    (
-        b"search extra\n# c\nsearch built-in a-b",
-        r#"Ok(List { elements: ["extra", "built-in", "a-b"] })"#,
-    ),
-    (
-        b"\noverride a * b",
-        r#"Err(BadLine { file: "/e/a.conf", line: 2 })"#,
-    ),
-];
-
-fn search_lines_are_read(rt: &impl Abort, alloc: Global) {
-    for (text, want) in &SEARCHES {
-        shown(rt, alloc, search_of(rt, alloc, text), want);
-    }
-}
-
-/// Chooses modules of a listing by a search list of these words.
-fn chosen(
-    rt: &impl Abort,
-    alloc: Global,
-    listed: &[&[u8]],
-    order: &[u8],
-    words: &[&[u8]],
-) -> Result<Tree, TreeFault> {
-    let search: Search = names(rt, alloc, words);
-    choose(alloc, &paths(rt, alloc, listed), order, &search)
-}
-
-/// Paths of a folder, with one module in two places.
-static LISTED: [&[u8]; 3] = [b"updates/a.ko", b"kernel/b.ko", b"kernel/a.ko"];
-
-/// First words of a search list, modules.order, and the tree.
-static CHOICES: [(&[u8], &[u8], &str); 2] = [
-    (
-        b"updates",
-        b"",
-        r#"Some(List { elements: ["kernel/b.ko", "updates/a.ko"] })"#,
-    ),
-    (
-        b"kernel",
-        b"kernel/b.ko\nkernel/a.ko\n",
-        r#"Some(List { elements: ["kernel/b.ko", "kernel/a.ko"] })"#,
-    ),
-];
-
-fn a_search_list_of_ones_own_chooses(rt: &impl Abort, alloc: Global) {
-    for (first, order, want) in &CHOICES {
-        let tree = chosen(rt, alloc, &LISTED, order, &[first, b"built-in"]).ok();
-        shown(rt, alloc, tree, want);
-    }
-}
-
-/// Paths of which two aren't those of modules.
-static BAD_PATHS: [&[u8]; 3] = [b"z .ko", b"a:.ko", b"b b"];
-
-fn a_bad_path_is_reported(rt: &impl Abort, alloc: Global) {
-    let Err(TreeFault::BadPath { path }) = chosen(rt, alloc, &BAD_PATHS, b"", &[]) else {
-        panic!(rt; "not refused");
-    };
-    shown(rt, alloc, path, r#""a:.ko""#);
-}
 
 // Each table is read by a function that promises nothing.
 
@@ -375,7 +284,7 @@ fn a_cycle_is_named(rt: &impl Abort, alloc: Global) {
 }
 
 /// The index of two modules, the second of which needs the first: dependency lines by names.
-pub(crate) static TWO_MODULES: &[u8] = b"\xb0\x07\xf4\x57\0\x02\0\x01\x20\0\0\x42\
+static TWO_MODULES: &[u8] = b"\xb0\x07\xf4\x57\0\x02\0\x01\x20\0\0\x42\
     \0\0\0\x01\0\0\0\0kernel/a.ko:\0\
     \0\0\0\x01\0\0\0\x01kernel/b.ko: kernel/a.ko\0\
     ab\x40\0\0\x0c\x40\0\0\x21";
@@ -410,8 +319,8 @@ fn a_tree_has_files(rt: &impl Abort, alloc: Global) {
 
 /// Stops unless these are the files of the tree.
 fn expect_files(rt: &impl Abort, alloc: Global, files: &OutputFiles) {
-    same(rt, files.dep_bin.as_bytes(), TWO_MODULES);
-    same(rt, files.builtin_bin.as_bytes(), BUILT);
+    holds(rt, files.dep_bin.as_bytes() == TWO_MODULES);
+    holds(rt, files.builtin_bin.as_bytes() == BUILT);
     shown(rt, alloc, (&files.dep, &files.unmet, &files.symbols), TEXTS);
 }
 
@@ -421,9 +330,6 @@ static TEXTS: &str =
 
 #[test]
 fn relations_are_called(rt: HostRuntime) {
-    search_lines_are_read(&rt, rt.alloc());
-    a_search_list_of_ones_own_chooses(&rt, rt.alloc());
-    a_bad_path_is_reported(&rt, rt.alloc());
     a_kernel_of_ones_own_is_made(&rt, rt.alloc());
     kernels_are_read(&rt, rt.alloc());
     kernels_are_read_from_maps(&rt, rt.alloc());

@@ -1,8 +1,8 @@
 //! Rules of the configuration, what names stand for, and plans.
 
-use crate::lines::adopt;
+use crate::configuration::one_file;
+use crate::lines::{TWO_MODULES, adopt};
 use crate::lists::{names, path};
-use crate::relation::{TWO_MODULES, one_file};
 use crate::same::{holds, same_option, shown};
 use index_read::Index;
 use index_write::{KeyMap, encode};

@@ -1,13 +1,18 @@
 //! The modules of the dependency lines of an index.
 
 use crate::lists::names;
-use crate::relation::TWO_MODULES;
-use crate::same::{holds, same, shown};
+use crate::same::{holds, same_option, shown};
 use dependency_lines::{DependencyLines, Modules};
 use index_read::Index;
 use km_names::Blob;
 use std::alloc::Global;
 use std::process::Abort;
+
+/// The index of two modules, the second of which needs the first: dependency lines by names.
+pub(crate) static TWO_MODULES: &[u8] = b"\xb0\x07\xf4\x57\0\x02\0\x01\x20\0\0\x42\
+    \0\0\0\x01\0\0\0\0kernel/a.ko:\0\
+    \0\0\0\x01\0\0\0\x01kernel/b.ko: kernel/a.ko\0\
+    ab\x40\0\0\x0c\x40\0\0\x21";
 
 /// Adopts an index.
 pub(crate) fn adopt(rt: &impl Abort, alloc: Global, file: &[u8]) -> Index {
@@ -18,8 +23,8 @@ pub(crate) fn adopt(rt: &impl Abort, alloc: Global, file: &[u8]) -> Index {
 /// Stops unless these are the two modules, of which `b` needs `a`.
 fn expect_two(rt: &impl Abort, alloc: Global, modules: &Modules<'_>) {
     holds(rt, modules.len() == 2);
-    same(rt, modules.name(1), b"b");
-    same(rt, modules.path(1), b"kernel/b.ko");
+    same_option(rt, Some(modules.name(1)), Some(b"b"));
+    same_option(rt, Some(modules.path(1)), Some(b"kernel/b.ko"));
     let needed = modules.line_places(alloc, 1);
     let asked = names(rt, alloc, &[b"b", b"nosuch"]);
     let found = modules.places_of(alloc, asked.as_slice());
