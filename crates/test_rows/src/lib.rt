@@ -3,7 +3,7 @@
 //! out. `run_trees` runs rows, each over files and outputs of its own, and says what differs from
 //! what a row says.
 //!
-//! It builds on `kmod_cli` for the commands, on `km_outside` for files and outputs in memory, on
+//! It builds on `kmod_cli` for the commands, on `outside_calls` for files and outputs in memory, on
 //! `km_names` for paths and words, and on `test_objects` for modules.
 #![tactic(auto)]
 

@@ -4,7 +4,7 @@ ghost use Rattle.std.specs.Prelude.{◌≡◌, ◌<◌};
 use crate::same::{holds, same, shown};
 use glob_match::matches;
 use index_nodes::{IndexFault, Nodes};
-use index_read::{FirstWalk, Index, Pairs, Steps, Values};
+use index_read::{FirstWalk, Index, Pairs, Steps, Values, distinct_texts};
 use index_write::{KeyMap, encode};
 use km_names::Blob;
 use std::alloc::{AllocError, Global};
@@ -137,6 +137,12 @@ fn read_root<L: Ledger>(rt: &impl Abort, nodes: &Nodes, steps: &mut Steps<L>) {
     holds(rt, place.priority() == 2);
     same(rt, nodes.text(&place), b"x");
     holds(rt, nodes.next_value(&place).is_none());
+    holds(rt, place.start() == 88);
+    let run = nodes.run(&place);
+    holds(rt, run.start() == 88);
+    holds(rt, run.end() == 94);
+    holds(rt, nodes.join(&run, &run).is_none());
+    holds(rt, nodes.value_after(&place, &run).is_none());
 }
 
 /// Adopts an index that is none of the bad ones.
@@ -214,6 +220,13 @@ fn look_up_patterns<L: Ledger>(rt: &impl Abort, alloc: Global, steps: &mut Steps
     for (text, want) in &MATCHED {
         shown(rt, alloc, index.wild(alloc, text, steps), want);
     }
+    let texts = distinct_texts(alloc, &index, b"pci_x:v00001d99").expect(rt, "texts");
+    shown(
+        rt,
+        alloc,
+        (texts.get(0), texts.get(1), texts.get(2)),
+        "(Some([120]), Some([121]), None)",
+    );
     drop(index);
 }
 
