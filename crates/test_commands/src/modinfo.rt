@@ -1,10 +1,12 @@
 // Modules that are shown by their paths.
+use km_names::PathText;
 use outside_calls::CallKind;
 use std::alloc::Global;
 use std::process::Abort;
 use test_objects::{EMPTY_SHEET, LICENSE_OBJECT, NO_MORE, SheetRow};
 use test_rows::{
-    Failing, FileRow, ModuleRow, PLAIN, Row, TreeRow, USAGE, image, run_tree, run_trees,
+    Failing, FileRow, ModuleRow, Objects, PLAIN, Row, TreeRow, USAGE, compare_seen, image,
+    run_tree, run_trees, run_words,
 };
 
 /// A module with two parameters, one of them without a text.
@@ -227,25 +229,29 @@ fn expect_shown(rt: &impl Abort, alloc: Global) {
 }
 
 /// What is said of a file past the limit.
-static TOO_LARGE: [Row; 1] = [(
+static TOO_LARGE: Row = (
     "modinfo -F license /m/a.ko",
     1,
     "",
     "kmod: /m/a.ko: too large\n",
-)];
+);
+
+/// Puts a file of so many zeros.
+fn put_zeros(rt: &impl Abort, alloc: Global, objects: &mut Objects, length: usize) {
+    let bytes = image(alloc, length, &[]).expect(rt, "zeros");
+    let path = PathText::from_slice(alloc, b"/m/a.ko").expect(rt, "a path");
+    let put = objects.files.put(&path, bytes.as_slice());
+    put.expect(rt, "a file more");
+}
 
 /// Runs words over a file past the limit.
 fn expect_too_large(rt: &impl Abort, alloc: Global) {
-    let zeros = image(alloc, 67_108_865, &[]).expect(rt, "zeros");
-    let tree = TreeRow {
-        files: &[FileRow {
-            path: "/m/a.ko",
-            bytes: zeros.as_slice(),
-        }],
-        rows: &TOO_LARGE,
-        ..PLAIN
-    };
-    run_tree(alloc, &tree).expect(rt, "a file past the limit");
+    let (words, ..) = TOO_LARGE;
+    let mut objects = Objects::new(alloc).expect(rt, "objects");
+    put_zeros(rt, alloc, &mut objects, 67_108_865);
+    run_words(alloc, &mut objects, words).expect(rt, "words");
+    compare_seen(alloc, &objects, TOO_LARGE, words).expect(rt, "a file past the limit");
+    drop(objects);
 }
 
 #[test]

@@ -53,7 +53,7 @@ pub fn compare_all(
 
 /// Compares the status that the last command answered, and what its outputs have, with what a row
 /// says. The name tells a row that differs.
-pub(crate) fn compare_seen(
+pub fn compare_seen(
     alloc: Global,
     objects: &Objects,
     row: RowOf<'_>,

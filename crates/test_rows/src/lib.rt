@@ -15,7 +15,7 @@ mod objects;
 mod row;
 mod runs;
 
-pub use difference::{Difference, compare_all};
+pub use difference::{Difference, compare_all, compare_seen};
 pub use file_system::{FILE_SYSTEM, FILE_SYSTEM_KERNEL};
 pub use images::image;
 pub use objects::{Objects, words_of};
@@ -23,4 +23,4 @@ pub use row::{
     EXTRA, Failing, FileRow, INDEX, INDEXED, ImageRow, ModuleRow, PLAIN, Row, RowOf, SYMVERS,
     SYSTEM_MAP, TWO, TreeRow, USAGE,
 };
-pub use runs::{run_first, run_next, run_over, run_tree, run_trees};
+pub use runs::{run_first, run_next, run_over, run_tree, run_trees, run_words};

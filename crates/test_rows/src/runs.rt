@@ -58,6 +58,13 @@ pub fn run_first(alloc: Global, objects: &mut Objects, words: &str) -> Result<()
     Ok(objects.want_all(alloc)?)
 }
 
+/// Runs words, with one space between each and the next. The only error is out of memory.
+pub fn run_words(alloc: Global, objects: &mut Objects, words: &str) -> Result<(), AllocError> {
+    let words = words_of(alloc, words)?;
+    run_listed(alloc, words.as_slice(), objects);
+    Ok(())
+}
+
 /// Runs a row of a tree over objects of its own.
 fn run_row(alloc: Global, tree: &TreeRow<'_>, row: RowOf<'_>) -> Result<(), Difference> {
     let mut objects = Objects::new(alloc)?;
@@ -71,13 +78,6 @@ fn name_of<'a>(tree: &TreeRow<'a>, words: &'a str) -> &'a str {
     } else {
         tree.name
     }
-}
-
-/// Runs words, with one space between each and the next. The only error is out of memory.
-fn run_words(alloc: Global, objects: &mut Objects, words: &str) -> Result<(), AllocError> {
-    let words = words_of(alloc, words)?;
-    run_listed(alloc, words.as_slice(), objects);
-    Ok(())
 }
 
 /// Runs words. It promises nothing, so that no contract is carried along.
