@@ -9,7 +9,7 @@ use Rattle.km_course.specs.declared.end.End.{End}
 use Rattle.modprobe_conf.specs.declared.rule.Rule.{Rule}
 use Rattle.module_facts.specs.declared.module.Module.{Module}
 use Rattle.kernel_exports.specs.declared.kernel.Kernel.{Kernel}
-use Rattle.model_loader.specs.declared.fault.LoadFault.{LoadFault}
+use Rattle.load_fault.specs.declared.fault.LoadFault.{LoadFault}
 use Rattle.kernel_exports.specs.declared.kernel.KernelExport.{KernelExport}
 use Rattle.module_region.specs.declared.region.Region.{Region}
 use Rattle.model_loader.specs.Machine.{Machine, new_machine}

@@ -13,7 +13,7 @@ use Rattle.km_course.specs.declared.refusal.Refusal.TheVariants.{LoadRefused, Pa
 use Rattle.kmod_words.specs.declared.modprobe.ModprobeWords.{ModprobeWords}
 use Rattle.kmod_words.specs.Modprobe.{modprobe_request}
 use Rattle.module_facts.specs.declared.module.Module.{Module}
-use Rattle.model_loader.specs.FaultText.{load_fault_text}
+use Rattle.load_fault.specs.FaultText.{load_fault_text}
 use Rattle.model_loader.specs.Machine.{Machine, new_machine}
 use Rattle.model_loader.specs.Sound.{IsSound}
 use Rattle.param_apply.specs.FaultText.{param_fault_text}

@@ -13,8 +13,8 @@ use Rattle.kmod_words.specs.declared.modprobe.Mode.TheVariants.{Load}
 use Rattle.kmod_words.specs.declared.modprobe.ModprobeWords.{ModprobeWords}
 use Rattle.kmod_words.specs.Modprobe.{modprobe_request}
 use Rattle.module_facts.specs.declared.module.Module.{Module}
-use Rattle.model_loader.specs.declared.fault.LoadFault.{LoadFault}
-use Rattle.model_loader.specs.FaultText.{load_fault_text}
+use Rattle.load_fault.specs.declared.fault.LoadFault.{LoadFault}
+use Rattle.load_fault.specs.FaultText.{load_fault_text}
 use Rattle.model_loader.specs.Machine.{Machine}
 use Rattle.model_loader.specs.Sound.{IsSound}
 use Rattle.model_loader.specs.Step.{step}

@@ -14,8 +14,8 @@ use Rattle.symbol_binding.specs.Symbols.{Export, Need, Face}
 use Rattle.provider_rel.specs.Faces.{export_of_facts}
 use Rattle.x86_relocate.specs.declared.patch.Overflow.{Overflow as TooWide}
 use Rattle.image_layout.specs.Laid.{overflow}
-use Rattle.model_loader.specs.declared.fault.LoadFault.{LoadFault}
-use Rattle.model_loader.specs.declared.fault.LoadFault.TheVariants.{RegionFull, Overflow}
+use Rattle.load_fault.specs.declared.fault.LoadFault.{LoadFault}
+use Rattle.load_fault.specs.declared.fault.LoadFault.TheVariants.{RegionFull, Overflow}
 use Rattle.model_loader.specs.Machine.{Machine, entry_face, export_face, facts_face, need_face}
 use Rattle.model_loader.specs.Gap.{gap}
 use Rattle.model_loader.specs.Sound.{IsSound}

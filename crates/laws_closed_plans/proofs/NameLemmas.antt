@@ -8,10 +8,10 @@ use Rattle.laws_closed_plans.specs.Members.{Member}
 use Rattle.symbol_binding.specs.Symbols.{Export, Need, Face, Kernel}
 use Rattle.symbol_binding.specs.Provider.{Provided, export_under}
 use Rattle.symbol_binding.specs.Needs.{NeedTest, is_missing, is_hidden, is_other_version, is_barred}
-use Rattle.model_loader.specs.declared.fault.LoadFault.{LoadFault}
-use Rattle.model_loader.specs.declared.fault.LoadFault.TheVariants.{AlreadyLoaded, MissingSymbol}
-use Rattle.model_loader.specs.declared.fault.LoadFault.TheVariants.{GplOnly, VersionDiffers}
-use Rattle.model_loader.specs.declared.fault.LoadFault.TheVariants.{NotImported, ExportTaken}
+use Rattle.load_fault.specs.declared.fault.LoadFault.{LoadFault}
+use Rattle.load_fault.specs.declared.fault.LoadFault.TheVariants.{AlreadyLoaded, MissingSymbol}
+use Rattle.load_fault.specs.declared.fault.LoadFault.TheVariants.{GplOnly, VersionDiffers}
+use Rattle.load_fault.specs.declared.fault.LoadFault.TheVariants.{NotImported, ExportTaken}
 use Rattle.laws_closed_plans.specs.Names.{need_fault, export_fault, name_fault, first_name_fault}
 use Rattle.laws_closed_plans.specs.Names.{is_named, owner_name, seen_table}
 use Rattle.model_loader.proofs.SoundLemmas.{Passes}

@@ -17,13 +17,13 @@ use Rattle.symbol_binding.specs.Needs.{NeedTest, is_missing, is_hidden, is_other
 use Rattle.symbol_binding.specs.Unmet.{vmlinux}
 use Rattle.kernel_exports.specs.declared.kernel.KernelExport.{KernelExport}
 use Rattle.provider_rel.specs.Faces.{kernel_of, export_of_facts, seen_export}
-use Rattle.model_loader.specs.declared.entry.PlacedExport.{PlacedExport}
+use Rattle.export_table.specs.declared.placed.PlacedExport.{PlacedExport}
 use Rattle.model_loader.specs.declared.entry.Entry.{Entry}
-use Rattle.model_loader.specs.declared.standing.Standing.{Standing}
-use Rattle.model_loader.specs.declared.fault.LoadFault.{LoadFault}
-use Rattle.model_loader.specs.declared.fault.LoadFault.TheVariants.{AlreadyLoaded, MissingSymbol}
-use Rattle.model_loader.specs.declared.fault.LoadFault.TheVariants.{GplOnly, VersionDiffers}
-use Rattle.model_loader.specs.declared.fault.LoadFault.TheVariants.{NotImported, ExportTaken}
+use Rattle.export_table.specs.declared.standing.Standing.{Standing}
+use Rattle.load_fault.specs.declared.fault.LoadFault.{LoadFault}
+use Rattle.load_fault.specs.declared.fault.LoadFault.TheVariants.{AlreadyLoaded, MissingSymbol}
+use Rattle.load_fault.specs.declared.fault.LoadFault.TheVariants.{GplOnly, VersionDiffers}
+use Rattle.load_fault.specs.declared.fault.LoadFault.TheVariants.{NotImported, ExportTaken}
 use Rattle.model_loader.specs.Machine.{Machine, bound_export, entry_face, export_face, export_named}
 use Rattle.model_loader.specs.Machine.{facts_face, facts_need, kernel_placed, standing}
 use Rattle.model_loader.specs.Machine.{standing_export, table}

@@ -1,8 +1,8 @@
 -- Loads of modules, one after the other.
 use Rattle.std.specs.Prelude.{◌≡◌, ℕ, List, [], ◌∷◌, ◌++◌, Result, Ok}
 use Rattle.module_facts.specs.declared.module.Module.{Module}
-use Rattle.model_loader.specs.declared.fault.LoadFault.{LoadFault}
-use Rattle.model_loader.specs.declared.fault.LoadFault.TheVariants.{RegionFull, Overflow}
+use Rattle.load_fault.specs.declared.fault.LoadFault.{LoadFault}
+use Rattle.load_fault.specs.declared.fault.LoadFault.TheVariants.{RegionFull, Overflow}
 use Rattle.model_loader.specs.Machine.{Machine}
 use Rattle.model_loader.specs.Step.{step}
 pub use Rattle.model_loader.specs.Chain.{unless_refused}

@@ -1,9 +1,9 @@
 // The laws.
 ghost use Rattle.std.specs.Prelude.{◌≡◌, true, false, Some, None, [], ◌∷◌, codes};
-ghost use Rattle.model_loader.specs.declared.fault.LoadFault.TheVariants.{AlreadyLoaded};
-ghost use Rattle.model_loader.specs.declared.fault.LoadFault.TheVariants.{MissingSymbol};
-ghost use Rattle.model_loader.specs.declared.fault.LoadFault.TheVariants.{VersionDiffers};
-ghost use Rattle.model_loader.specs.declared.fault.LoadFault.TheVariants.{ExportTaken};
+ghost use Rattle.load_fault.specs.declared.fault.LoadFault.TheVariants.{AlreadyLoaded};
+ghost use Rattle.load_fault.specs.declared.fault.LoadFault.TheVariants.{MissingSymbol};
+ghost use Rattle.load_fault.specs.declared.fault.LoadFault.TheVariants.{VersionDiffers};
+ghost use Rattle.load_fault.specs.declared.fault.LoadFault.TheVariants.{ExportTaken};
 ghost use Rattle.laws_closed_plans.specs.Names.{first_name_fault};
 ghost use Rattle.laws_closed_plans.specs.Plan.{ClosedPlansPass, faces_of};
 ghost use Rattle.laws_closed_plans.specs.Binding.{AddressesAreUnseen, ClosedPlansBind, LoadsBind};

@@ -9,8 +9,8 @@ use Rattle.modprobe_conf.specs.declared.rule.Rule.{Rule}
 use Rattle.modprobe_conf.specs.declared.rule.Rule.TheVariants as rules
 use Rattle.module_facts.specs.Faults.{fact_fault}
 use Rattle.kernel_exports.specs.declared.kernel.KernelExport.{KernelExport}
-use Rattle.model_loader.specs.declared.fault.LoadFault.TheVariants.{ExportTaken, MissingSymbol}
-use Rattle.model_loader.specs.declared.fault.MachineFault.TheVariants.{KernelWithoutAddress}
+use Rattle.load_fault.specs.declared.fault.LoadFault.TheVariants.{ExportTaken, MissingSymbol}
+use Rattle.load_fault.specs.declared.fault.MachineFault.TheVariants.{KernelWithoutAddress}
 use Rattle.module_region.specs.declared.region.Region.{Region}
 use Rattle.model_loader.specs.Machine.{kernel_fault, new_machine}
 use Rattle.plan_builder.specs.declared.step.PlanStep.{PlanStep}

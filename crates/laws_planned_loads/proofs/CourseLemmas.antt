@@ -27,7 +27,7 @@ use Rattle.module_facts.specs.Facts.{facts_of}
 use Rattle.module_facts.specs.Faults.{fact_fault}
 use Rattle.kernel_exports.specs.declared.kernel.Kernel.{Kernel}
 use Rattle.provider_rel.specs.Faces.{kernel_of}
-use Rattle.model_loader.specs.declared.fault.LoadFault.{LoadFault}
+use Rattle.load_fault.specs.declared.fault.LoadFault.{LoadFault}
 use Rattle.module_region.specs.declared.region.Region.{Region}
 use Rattle.model_loader.specs.Machine.{Machine, new_machine}
 use Rattle.name_lookup.specs.Maps.{has_value}

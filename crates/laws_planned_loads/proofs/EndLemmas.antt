@@ -3,7 +3,7 @@ use Rattle.std.proofs.Common.{◌≡◌, ◌∙◌, ℕ, Bool, List, ◌∷◌, 
 use Rattle.std.specs.Prelude.{Result, Ok, Err, IfErr}
 use Rattle.km_course.specs.Course.{Act, Outcome}
 use Rattle.module_facts.specs.declared.module.Module.{Module}
-use Rattle.model_loader.specs.declared.fault.LoadFault.{LoadFault}
+use Rattle.load_fault.specs.declared.fault.LoadFault.{LoadFault}
 use Rattle.model_loader.specs.Machine.{Machine}
 use Rattle.model_loader.specs.Step.{step}
 use Rattle.laws_closed_plans.specs.Loads.{IsPlaceFault, load_all, unless_refused}

@@ -7,8 +7,8 @@ use Rattle.index_read.specs.declared.index.Index.{Index}
 use Rattle.module_facts.specs.declared.module.Module.{Module}
 use Rattle.mod_tree.specs.DependencyLine.{line_path}
 use Rattle.mod_tree.specs.Tree.{is_module_path}
-use Rattle.model_loader.specs.declared.fault.LoadFault.{LoadFault}
-use Rattle.model_loader.specs.FaultText.{load_fault_text}
+use Rattle.load_fault.specs.declared.fault.LoadFault.{LoadFault}
+use Rattle.load_fault.specs.FaultText.{load_fault_text}
 use Rattle.model_loader.specs.Machine.{Machine}
 use Rattle.model_loader.specs.Step.{step}
 use Rattle.km_course.specs.Course.{Act, Run, after, given, each_from}

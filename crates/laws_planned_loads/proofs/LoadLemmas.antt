@@ -8,8 +8,8 @@ use Rattle.std.proofs.lemmas.List.Elements.{All-cons}
 use Rattle.km_names.specs.Path.{path_below}
 use Rattle.outside_calls.specs.Contents.{Contents}
 use Rattle.module_facts.specs.declared.module.Module.{Module}
-use Rattle.model_loader.specs.declared.fault.LoadFault.{LoadFault}
-use Rattle.model_loader.specs.FaultText.{load_fault_text}
+use Rattle.load_fault.specs.declared.fault.LoadFault.{LoadFault}
+use Rattle.load_fault.specs.FaultText.{load_fault_text}
 use Rattle.model_loader.specs.Machine.{Machine}
 use Rattle.model_loader.specs.Step.{entry_at, refusal, step, with_entry}
 use Rattle.param_apply.specs.declared.fault.ParamFault.{ParamFault}

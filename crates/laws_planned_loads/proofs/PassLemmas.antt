@@ -44,9 +44,9 @@ use Rattle.kernel_exports.specs.declared.kernel.KernelExport.{KernelExport}
 use Rattle.provider_rel.specs.Faces.{kernel_of}
 use Rattle.kernel_exports.specs.KernelTable.{exports_of_map, exports_of_symvers}
 use Rattle.kernel_exports.specs.KernelTable.{exports_with_addresses}
-use Rattle.model_loader.specs.declared.fault.LoadFault.{LoadFault}
+use Rattle.load_fault.specs.declared.fault.LoadFault.{LoadFault}
 use Rattle.module_region.specs.declared.region.Region.{Region}
-use Rattle.model_loader.specs.FaultText.{load_fault_text}
+use Rattle.load_fault.specs.FaultText.{load_fault_text}
 use Rattle.model_loader.specs.Machine.{Machine}
 use Rattle.model_loader.specs.Step.{step}
 use Rattle.model_loader.specs.Use.{name_at}

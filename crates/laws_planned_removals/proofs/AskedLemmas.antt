@@ -17,7 +17,7 @@ use Rattle.km_names.specs.First.{first}
 use Rattle.module_facts.specs.declared.module.Module.{Module}
 use Rattle.name_table.specs.FirstSeen.{is_among}
 use Rattle.model_loader.specs.declared.entry.Entry.{Entry}
-use Rattle.model_loader.specs.declared.fault.LoadFault.{LoadFault}
+use Rattle.load_fault.specs.declared.fault.LoadFault.{LoadFault}
 use Rattle.model_loader.specs.Machine.{Machine}
 use Rattle.model_loader.specs.Sound.{entry_names}
 use Rattle.model_loader.specs.Step.{entry_at, module_base, step, with_entry}

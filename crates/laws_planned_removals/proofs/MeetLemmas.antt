@@ -16,7 +16,7 @@ use Rattle.index_read.proofs.ContentsLemmas.{held as contents-held}
 use Rattle.module_facts.specs.declared.module.Module.{Module}
 use Rattle.name_table.specs.FirstSeen.{is_among}
 use Rattle.kernel_exports.specs.declared.kernel.Kernel.{Kernel}
-use Rattle.model_loader.specs.declared.fault.LoadFault.{LoadFault}
+use Rattle.load_fault.specs.declared.fault.LoadFault.{LoadFault}
 use Rattle.module_region.specs.declared.region.Region.{Region}
 use Rattle.model_loader.specs.Machine.{Machine, new_machine}
 use Rattle.model_unload.specs.Unload.{unload_all}

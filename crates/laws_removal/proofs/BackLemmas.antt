@@ -7,7 +7,7 @@ use Rattle.std.specs.Option.{option_map_or}
 use Rattle.std.specs.Str.{bytes_eq}
 use Rattle.std.proofs.lemmas.Bool.{false≢true}
 use Rattle.model_loader.specs.declared.entry.Entry.{Entry}
-use Rattle.model_loader.specs.declared.fault.LoadFault.{LoadFault}
+use Rattle.load_fault.specs.declared.fault.LoadFault.{LoadFault}
 use Rattle.model_loader.specs.Machine.{Machine, new_machine}
 use Rattle.model_loader.specs.Use.{without_all}
 use Rattle.model_unload.specs.Unload.{AreFallingFrom, unload_all}

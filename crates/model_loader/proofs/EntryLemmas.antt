@@ -17,15 +17,16 @@ use Rattle.image_layout.specs.declared.fault.LayFault.{LayFault}
 use Rattle.image_layout.specs.declared.fault.LayFault.TheVariants.{Overflow as LayTooWide}
 use Rattle.image_layout.specs.declared.fault.LayFault.TheVariants.{Memory as NoMemory}
 use Rattle.x86_relocate.specs.declared.patch.Overflow.{Overflow as TooWide}
-use Rattle.model_loader.specs.declared.fault.LoadFault.TheVariants.{Overflow, Memory}
-use Rattle.model_loader.specs.FaultText.{load_fault_from}
-use Rattle.model_loader.specs.declared.entry.PlacedExport.{PlacedExport}
-use Rattle.model_loader.specs.declared.standing.Standing.{Standing}
-use Rattle.model_loader.specs.declared.standing.ExportTable.{ExportTable}
+use Rattle.load_fault.specs.declared.fault.LoadFault.TheVariants.{Overflow, Memory}
+use Rattle.load_fault.specs.FaultText.{load_fault_from}
+use Rattle.export_table.specs.declared.placed.PlacedExport.{PlacedExport}
+use Rattle.export_table.specs.declared.standing.Standing.{Standing}
+use Rattle.export_table.specs.declared.standing.ExportTable.{ExportTable}
 use Rattle.model_loader.specs.Machine.{Machine}
-use Rattle.model_loader.specs.NeedTests.{given_by, kept_address}
+use Rattle.export_table.specs.NeedTests.{given_by, kept_address}
 use Rattle.model_loader.specs.Standing.{Keeps}
-use Rattle.model_loader.specs.Parts.{entry_by, placed_by}
+use Rattle.model_loader.specs.Parts.{entry_by}
+use Rattle.export_table.specs.Standing.{placed_by}
 use Rattle.model_loader.specs.Step.{need_address, given_address, given_addresses, symbol_addresses}
 use Rattle.model_loader.specs.Step.{module_size, placed_export, entry_at, bound_need}
 use Rattle.model_loader.specs.Step.{overflow_fault}

@@ -4,13 +4,13 @@ use Rattle.std.proofs.Common.{Bool, true, false, List, [], ◌∷◌, ◌++◌, 
 use Rattle.std.proofs.Common.{ap, subst, arith, length, map, get_or}
 use Rattle.std.specs.Prelude.{find, option_map, All, unwrap_or, is_none, option_and_then}
 use Rattle.elf_sections.specs.Shape.{fault_if}
-use Rattle.model_loader.specs.declared.fault.LoadFault.TheVariants.{RegionFull}
+use Rattle.load_fault.specs.declared.fault.LoadFault.TheVariants.{RegionFull}
 use Rattle.std.specs.List.{IsDistinct, list_any}
 use Rattle.std.specs.Option.{option_or}
 use Rattle.std.specs.Str.{bytes_eq}
 use Rattle.std.proofs.lemmas.Bool.{cases_Bool}
 use Rattle.std.proofs.lemmas.Bool.Decides.{nat_tests}
-use Rattle.std.proofs.lemmas.List.{map-append}
+use Rattle.std.proofs.lemmas.List.{length-map, map-append}
 use Rattle.std.proofs.lemmas.List.FromFn.{get_or-map-range_with_len, length-map-range_with_len}
 use Rattle.km_names.specs.First.{first}
 use Rattle.module_facts.specs.declared.module.Module.{Module}
@@ -19,19 +19,24 @@ use Rattle.x86_relocate.specs.Patched.{patched, byte_at}
 use Rattle.image_layout.specs.Offsets.{aligned, greater, image_size}
 use Rattle.image_layout.specs.Plain.{filled, plain_byte, pieces, plain_image}
 use Rattle.image_layout.specs.Laid.{laid, patches}
-use Rattle.model_loader.specs.declared.entry.PlacedExport.{PlacedExport}
+use Rattle.export_table.specs.declared.placed.PlacedExport.{PlacedExport}
 use Rattle.model_loader.specs.declared.entry.Entry.{Entry}
 use Rattle.module_region.specs.declared.region.Region.{Region}
-use Rattle.model_loader.specs.declared.standing.Standing.{Standing}
-use Rattle.model_loader.specs.declared.standing.Named.{Named}
-use Rattle.model_loader.specs.declared.standing.ExportTable.{ExportTable}
-use Rattle.model_loader.specs.Machine.{Machine, export_named, kernel_placed, standing, table}
+use Rattle.export_table.specs.declared.standing.Standing.{Standing}
+use Rattle.export_table.specs.declared.standing.Named.{Named}
+use Rattle.export_table.specs.declared.standing.ExportTable.{ExportTable}
+use Rattle.model_loader.specs.Machine.{Machine, table}
+use Rattle.export_table.specs.Exports.{export_named, kernel_placed, standing}
 use Rattle.model_loader.specs.Gap.{gap, gap_among, is_gap, meets_entry, pages}
 use Rattle.model_loader.specs.Kept.{IsKept}
+use Rattle.model_loader.specs.Parts.{HasParts}
+use Rattle.model_loader.specs.Runs.{IsPaged, run_of}
 use Rattle.model_loader.specs.Sound.{IsPlaced, entry_names, exported_names}
-use Rattle.model_loader.specs.Standing.{export_pair, named_pair, standing_in, standing_of}
+use Rattle.model_loader.specs.Standing.{Keeps}
+use Rattle.export_table.specs.Standing.{export_pair, named_pair, standing_in, standing_of}
 use Rattle.model_loader.specs.Step.{named_pages, overflow_fault, entry_at, module_base}
-use Rattle.model_loader.specs.Step.{module_size, placement_tests, symbol_addresses, with_entry}
+use Rattle.model_loader.specs.Step.{module_size, placed_export, placement_tests, symbol_addresses}
+use Rattle.model_loader.specs.Step.{with_entry}
 use Rattle.model_loader.proofs.StandingLemmas.{find-map}
 use Rattle.model_loader.proofs.StepLemmas.{first-append}
 
@@ -232,3 +237,32 @@ kept-next machine t next m e named kept passed is same entered names distinct = 
       (subst (IsPlaced machine) (sym is)
       (placed-new machine m (module_base machine m) (module-gap machine m passed)));
 }
+
+-- The parts of a machine once its table has room for more names.
+pub parts-with-room : (inside machine : Machine) (entries : List Entry) (t next : ExportTable)
+    → inside ≡ machine → IsKept inside t → entries ≡ inside.entries
+    → ((x : List ℕ) → standing_of next x ≡ standing_of t x)
+    → HasParts machine inside.region entries next
+parts-with-room inside machine entries t next is kept are same = record {
+  region_is = ap (λ (m : Machine). m.region) (sym is);
+  entries_are = ap (λ (m : Machine). m.entries) (sym is) ∙ sym are;
+  keeps = subst (Keeps next) is (record { at = λ x. same x ∙ kept.keeps.at x });
+}
+
+pub paged-entries : (machine : Machine) (entries : List Entry)
+    → All (IsPlaced machine) machine.entries → entries ≡ machine.entries
+    → All (λ (e : Entry). IsPaged (run_of e)) entries
+paged-entries machine entries placed are =
+    subst (All (λ (e : Entry). IsPaged (run_of e))) (sym are)
+    (λ k d less. record { begins = (placed k d less).begins; whole = (placed k d less).whole })
+
+-- The table's entries for a module are as many as its exports.
+pub named-length : (machine : Machine) (m : Module) (base : ℕ) (e : Entry) (named : List Named)
+    (owner : Option (List ℕ))
+    → e ≡ entry_at machine m base → map named_pair named ≡ map (export_pair owner) e.exports
+    → length named ≡ length m.facts.exports
+unfolding entry_at
+named-length machine m base e named owner is same =
+    sym (length-map named named_pair) ∙ ap length same ∙ length-map e.exports (export_pair owner)
+    ∙ ap (λ (x : Entry). length x.exports) is
+    ∙ length-map m.facts.exports (placed_export machine m base)

@@ -1,12 +1,9 @@
-pub mod TableLemmas
 pub mod GapLemmas
 pub mod StandingLemmas
-pub mod GivenLemmas
 pub mod EntryLemmas
 pub mod NameLemmas
 pub mod StepLemmas
 pub mod KeptLemmas
-pub mod KernelLemmas
 pub mod SoundLemmas
 pub mod PlaceLemmas
 pub mod ListedLemmas

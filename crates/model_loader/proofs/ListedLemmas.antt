@@ -1,8 +1,8 @@
 -- Names that are listed once, where some in the middle are left out.
-use Rattle.std.proofs.Common.{◌≡◌, ◌<◌, ◌∙◌, ◌⊎◌, inl, inr, ℕ, zero, suc, true, false, List, []}
+use Rattle.std.proofs.Common.{◌≡◌, ◌∙◌, inl, inr, ℕ, zero, suc, true, false, List, []}
 use Rattle.std.proofs.Common.{◌∷◌, ◌++◌, Some, None, refl, sym, ap, subst, map, take, drop}
 use Rattle.std.proofs.Common.{append_assoc, append-nil}
-use Rattle.std.specs.Prelude.{◌&&◌, ◌||◌, ◌==◌, flat_map, remove, slice_get}
+use Rattle.std.specs.Prelude.{◌||◌, flat_map, remove, slice_get}
 use Rattle.std.specs.List.{IsDistinct, AllByRecursion, list_any}
 use Rattle.std.specs.Option.{option_map_or}
 use Rattle.std.specs.Str.{bytes_eq}
@@ -13,9 +13,10 @@ use Rattle.std.proofs.lemmas.List.Concat.{flat_map-append}
 use Rattle.std.proofs.lemmas.List.Folds.{list_any-append}
 use Rattle.std.proofs.lemmas.Slice.Eq.{bytes_eq-Decides}
 use Rattle.kernel_exports.specs.declared.kernel.KernelExport.{KernelExport}
-use Rattle.model_loader.specs.declared.entry.PlacedExport.{PlacedExport}
+use Rattle.export_table.specs.declared.placed.PlacedExport.{PlacedExport}
 use Rattle.model_loader.specs.declared.entry.Entry.{Entry}
-use Rattle.model_loader.specs.Machine.{Machine, export_named}
+use Rattle.model_loader.specs.Machine.{Machine}
+use Rattle.export_table.specs.Exports.{export_named}
 use Rattle.model_loader.specs.Sound.{exported_names}
 use Rattle.model_loader.specs.Use.{without}
 use Rattle.model_loader.proofs.StandingLemmas.{same_name}

@@ -1,5 +1,5 @@
 -- Who exports what a module needs, by the tables of a machine.
-use Rattle.std.proofs.Common.{◌≡◌, ◌<◌, ◌≤◌, ◌+◌, ◌-◌, ◌∙◌, ◌⊎◌, inl, inr, ℕ, zero, suc, Bool, true}
+use Rattle.std.proofs.Common.{◌≡◌, ◌<◌, ◌≤◌, ◌+◌, ◌∙◌, inl, inr, ℕ, zero, suc, Bool, true}
 use Rattle.std.proofs.Common.{false, List, [], ◌∷◌, ◌++◌, Option, Some, None, refl, sym, ap, subst}
 use Rattle.std.proofs.Common.{arith, length, map, get_or, take, drop, cond}
 use Rattle.std.specs.Prelude.{option_map, option_and_then, ◌&&◌, ◌||◌, nat_eq, nat_lt, not}
@@ -17,15 +17,16 @@ use Rattle.km_names.specs.First.{first}
 use Rattle.name_table.specs.NameTable.{IsTableOf, Table, place_of, states}
 use Rattle.symbol_binding.specs.Needs.{is_seen}
 use Rattle.kernel_exports.specs.declared.kernel.KernelExport.{KernelExport}
-use Rattle.model_loader.specs.declared.entry.PlacedExport.{PlacedExport}
+use Rattle.export_table.specs.declared.placed.PlacedExport.{PlacedExport}
 use Rattle.model_loader.specs.declared.entry.BoundNeed.{BoundNeed}
 use Rattle.model_loader.specs.declared.entry.Entry.{Entry}
-use Rattle.model_loader.specs.declared.standing.Standing.{Standing}
-use Rattle.model_loader.specs.declared.standing.ExportTable.{ExportTable}
+use Rattle.export_table.specs.declared.standing.Standing.{Standing}
+use Rattle.export_table.specs.declared.standing.ExportTable.{ExportTable}
 use Rattle.model_loader.specs.Kept.{IsKept}
-use Rattle.model_loader.specs.Machine.{Machine, export_named, kernel_placed, standing, table}
+use Rattle.model_loader.specs.Machine.{Machine, table}
+use Rattle.export_table.specs.Exports.{export_named, kernel_placed, standing}
 use Rattle.model_loader.specs.Sound.{entry_names, exported_names}
-use Rattle.model_loader.specs.Standing.{standing_of}
+use Rattle.export_table.specs.Standing.{standing_of}
 use Rattle.model_loader.specs.Use.{AreUses, binds, is_met_by, uses_entry}
 use Rattle.model_loader.specs.Uses.{AreBoundPlaces, below, bound_place, is_bound_at, is_met_named}
 use Rattle.model_loader.specs.Uses.{is_owner, is_place, met_place, owner_place, stated_names}

@@ -25,17 +25,17 @@ use Rattle.kernel_exports.specs.declared.kernel.KernelExport.{KernelExport}
 use Rattle.symbol_binding.specs.Needs.{NeedTest, sees, may_use, agree, is_missing, is_hidden}
 use Rattle.symbol_binding.specs.Needs.{is_other_version, is_barred}
 use Rattle.symbol_binding.specs.Unmet.{vmlinux}
-use Rattle.model_loader.specs.declared.entry.PlacedExport.{PlacedExport}
+use Rattle.export_table.specs.declared.placed.PlacedExport.{PlacedExport}
 use Rattle.model_loader.specs.declared.entry.Entry.{Entry}
-use Rattle.model_loader.specs.declared.fault.LoadFault.{LoadFault}
-use Rattle.model_loader.specs.declared.fault.LoadFault.TheVariants.{AlreadyLoaded, MissingSymbol}
-use Rattle.model_loader.specs.declared.fault.LoadFault.TheVariants.{GplOnly, VersionDiffers}
-use Rattle.model_loader.specs.declared.fault.LoadFault.TheVariants.{NotImported, ExportTaken}
+use Rattle.load_fault.specs.declared.fault.LoadFault.{LoadFault}
+use Rattle.load_fault.specs.declared.fault.LoadFault.TheVariants.{AlreadyLoaded, MissingSymbol}
+use Rattle.load_fault.specs.declared.fault.LoadFault.TheVariants.{GplOnly, VersionDiffers}
+use Rattle.load_fault.specs.declared.fault.LoadFault.TheVariants.{NotImported, ExportTaken}
 use Rattle.module_region.specs.declared.region.Region.{Region}
-use Rattle.model_loader.specs.declared.standing.Standing.{Standing}
-use Rattle.model_loader.specs.Machine.{Machine, bound_export, entry_face, export_named, facts_face}
-use Rattle.model_loader.specs.Machine.{facts_need, is_loaded, kernel_placed, need_face, new_machine}
-use Rattle.model_loader.specs.Machine.{standing, table}
+use Rattle.export_table.specs.declared.standing.Standing.{Standing}
+use Rattle.export_table.specs.Exports.{export_named, kernel_placed, standing}
+use Rattle.model_loader.specs.Machine.{Machine, bound_export, entry_face, facts_face, facts_need}
+use Rattle.model_loader.specs.Machine.{is_loaded, need_face, new_machine, table}
 use Rattle.model_loader.specs.Gap.{meets_entry}
 use Rattle.model_loader.specs.Sound.{Agrees, AreApart, AreBoundAfter, IsBound, IsEntryOf, IsSound}
 use Rattle.model_loader.specs.Sound.{entry_names, exported_names}

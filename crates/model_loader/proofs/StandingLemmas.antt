@@ -6,11 +6,12 @@ use Rattle.std.specs.Str.{bytes_eq}
 use Rattle.std.proofs.lemmas.Slice.Eq.{bytes_eq-Decides}
 use Rattle.module_facts.specs.declared.facts.Facts.{Facts}
 use Rattle.module_symbols.specs.declared.needs.Need.{Need as FactsNeed}
-use Rattle.model_loader.specs.declared.standing.ExportTable.{ExportTable}
-use Rattle.model_loader.specs.declared.needs.Check.{Check}
+use Rattle.export_table.specs.declared.standing.ExportTable.{ExportTable}
 use Rattle.model_loader.specs.Machine.{Machine, bound_export, facts_face, facts_need}
-use Rattle.model_loader.specs.Machine.{standing_export}
-use Rattle.model_loader.specs.NeedTests.{need_fails, test_of, fault_of}
+use Rattle.export_table.specs.Exports.{standing_export}
+use Rattle.export_table.specs.NeedTests.{failed_need, need_fails}
+use Rattle.load_fault.specs.declared.fault.LoadFault.{LoadFault}
+use Rattle.symbol_binding.specs.Needs.{NeedTest}
 use Rattle.model_loader.specs.Standing.{Keeps}
 use Rattle.model_loader.specs.Step.{need_test}
 
@@ -38,14 +39,12 @@ pub same_name : (y x : List ℕ) → bytes_eq y x ≡ true → y ≡ x
 same_name y x is = (bytes_eq-Decides y x).0 is
 
 -- The test of a need over a machine whose names a table keeps.
-pub need_test-is : (machine : Machine) (t : ExportTable) (f : Facts) (check : Check)
-    → Keeps t machine
-    → need_test machine f (test_of check) (fault_of check)
-    ≡ option_map (λ (n : FactsNeed). fault_of check n.name)
-    (find (need_fails check t f) f.needs)
-need_test-is machine t f check keeps =
-    ap (option_map (λ (n : FactsNeed). fault_of check n.name))
-    (find-same (λ n. test_of check (bound_export machine n.name) (facts_face f) (facts_need n))
-    (need_fails check t f)
-    (λ n. ap (λ o. test_of check (option_map (standing_export n.name) o) (facts_face f)
-    (facts_need n)) (sym (keeps.at n.name))) f.needs)
+pub need_test-is : (machine : Machine) (t : ExportTable) (f : Facts) (test : NeedTest)
+    (fault : List ℕ → LoadFault)
+    → Keeps t machine → need_test machine f test fault ≡ failed_need t f test fault
+need_test-is machine t f test fault keeps =
+    ap (option_map (λ (n : FactsNeed). fault n.name))
+    (find-same (λ n. test (bound_export machine n.name) (facts_face f) (facts_need n))
+    (need_fails test t f)
+    (λ n. ap (λ o. test (option_map (standing_export n.name) o) (facts_face f) (facts_need n))
+    (sym (keeps.at n.name))) f.needs)

@@ -6,8 +6,8 @@ use Rattle.std.specs.Option.{option_or}
 use Rattle.km_names.specs.First.{first}
 use Rattle.module_facts.specs.declared.module.Module.{Module}
 use Rattle.model_loader.specs.declared.entry.Entry.{Entry}
-use Rattle.model_loader.specs.declared.fault.LoadFault.{LoadFault}
-use Rattle.model_loader.specs.declared.fault.LoadFault.TheVariants.{Memory}
+use Rattle.load_fault.specs.declared.fault.LoadFault.{LoadFault}
+use Rattle.load_fault.specs.declared.fault.LoadFault.TheVariants.{Memory}
 use Rattle.model_loader.specs.Machine.{Machine}
 use Rattle.model_loader.specs.Step.{entry_at, module_base, name_tests, placement_tests, refusal}
 use Rattle.model_loader.specs.Step.{step, with_entry}
@@ -17,6 +17,10 @@ pub first-append : {X : Type 0} (xs ys : List (Option X))
 first-append [] ys = refl
 first-append (None ∷ xs) ys = first-append xs ys
 first-append (Some x ∷ xs) ys = refl
+
+pub first-alone : {X : Type 0} (o : Option X) → first (o ∷ None ∷ []) ≡ o
+first-alone None = refl
+first-alone (Some x) = refl
 
 module _ (machine : Machine) (m : Module) where
   split : refusal machine m

@@ -20,12 +20,12 @@ use Rattle.kernel_exports.specs.declared.kernel.KernelExport.{KernelExport}
 use Rattle.symbol_binding.specs.Needs.{is_seen}
 use Rattle.image_layout.specs.Symbols.{address, addresses}
 use Rattle.image_layout.specs.Laid.{laid}
-use Rattle.model_loader.specs.declared.entry.PlacedExport.{PlacedExport}
+use Rattle.export_table.specs.declared.placed.PlacedExport.{PlacedExport}
 use Rattle.model_loader.specs.declared.entry.BoundNeed.{BoundNeed}
 use Rattle.model_loader.specs.declared.entry.Entry.{Entry}
-use Rattle.model_loader.specs.declared.standing.Standing.{Standing}
-use Rattle.model_loader.specs.Machine.{Machine, bound_export, entry_face, export_named}
-use Rattle.model_loader.specs.Machine.{kernel_placed, need_face, standing, standing_export, table}
+use Rattle.export_table.specs.declared.standing.Standing.{Standing}
+use Rattle.export_table.specs.Exports.{export_named, kernel_placed, standing, standing_export}
+use Rattle.model_loader.specs.Machine.{Machine, bound_export, entry_face, need_face, table}
 use Rattle.model_loader.specs.Sound.{AreApart, AreBoundAfter, IsEntryOf, IsSound, exported_names}
 use Rattle.model_loader.specs.Step.{bound_need, entry_at, given_address, given_addresses}
 use Rattle.model_loader.specs.Step.{module_size, need_address}

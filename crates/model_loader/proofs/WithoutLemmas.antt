@@ -1,7 +1,7 @@
 -- What a machine keeps without one of its entries.
-use Rattle.std.proofs.Common.{◌≡◌, ◌<◌, ◌∙◌, ◌⊎◌, ℕ, zero, suc, List, [], ◌∷◌, ◌++◌, Option, Some}
+use Rattle.std.proofs.Common.{◌≡◌, ◌<◌, ◌∙◌, ℕ, zero, suc, List, [], ◌∷◌, Option, Some}
 use Rattle.std.proofs.Common.{None, refl, sym, ap, arith, length, map, get_or, cond}
-use Rattle.std.specs.Prelude.{option_map, All, ◌&&◌, ◌||◌, ◌==◌, flat_map, remove, slice_get}
+use Rattle.std.specs.Prelude.{option_map, All, flat_map, remove, slice_get}
 use Rattle.std.specs.Prelude.{is_some}
 use Rattle.std.specs.List.{IsDistinct, list_any}
 use Rattle.std.specs.Option.{option_map_or}
@@ -9,13 +9,14 @@ use Rattle.std.specs.Str.{bytes_eq}
 use Rattle.std.proofs.lemmas.Bool.{or_parts}
 use Rattle.km_names.specs.First.{first}
 use Rattle.kernel_exports.specs.declared.kernel.KernelExport.{KernelExport}
-use Rattle.model_loader.specs.declared.entry.PlacedExport.{PlacedExport}
+use Rattle.export_table.specs.declared.placed.PlacedExport.{PlacedExport}
 use Rattle.model_loader.specs.declared.entry.Entry.{Entry}
-use Rattle.model_loader.specs.declared.standing.Standing.{Standing}
-use Rattle.model_loader.specs.declared.standing.ExportTable.{ExportTable}
+use Rattle.export_table.specs.declared.standing.Standing.{Standing}
+use Rattle.export_table.specs.declared.standing.ExportTable.{ExportTable}
 use Rattle.model_loader.specs.Kept.{IsKept}
-use Rattle.model_loader.specs.Standing.{standing_of}
-use Rattle.model_loader.specs.Machine.{Machine, export_named, kernel_placed, standing, table}
+use Rattle.export_table.specs.Standing.{standing_of}
+use Rattle.model_loader.specs.Machine.{Machine, table}
+use Rattle.export_table.specs.Exports.{export_named, kernel_placed, standing}
 use Rattle.model_loader.specs.Sound.{IsPlaced, exported_names}
 use Rattle.model_loader.specs.Use.{without}
 use Rattle.model_loader.proofs.ListedLemmas.{exports-without, flip, names-without, names_of}

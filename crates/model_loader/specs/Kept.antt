@@ -2,7 +2,7 @@
 use Rattle.std.specs.Prelude.{All}
 use Rattle.std.specs.List.{IsDistinct}
 use Rattle.std.specs.Str.{bytes_eq}
-use Rattle.model_loader.specs.declared.standing.ExportTable.{ExportTable}
+use Rattle.export_table.specs.declared.standing.ExportTable.{ExportTable}
 use Rattle.model_loader.specs.Machine.{Machine}
 use Rattle.model_loader.specs.Sound.{IsPlaced, entry_names, exported_names}
 use Rattle.model_loader.specs.Standing.{Keeps}

@@ -1,11 +1,9 @@
-pub mod FaultText
 pub mod Machine
 pub mod Gap
 pub mod Step
 pub mod Sound
 pub mod Standing
 pub mod Runs
-pub mod NeedTests
 pub mod Parts
 pub mod Kept
 pub mod Use

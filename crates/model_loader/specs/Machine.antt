@@ -1,23 +1,22 @@
 -- A machine: the symbols of a kernel with their addresses, a region for modules, and the modules
 -- that were loaded, oldest first. The kernel's struct module, include/linux/module.h, and
 -- find_symbol, kernel/module/main.c.
-use Rattle.std.specs.Prelude.{ℕ, Bool, List, [], ◌∷◌, map, find, Option, None, Some, is_none}
-use Rattle.std.specs.Prelude.{option_map, unwrap_or}
+use Rattle.std.specs.Prelude.{ℕ, Bool, List, [], ◌∷◌, map, Option, None, Some, option_map}
 use Rattle.std.specs.List.{list_any}
 use Rattle.std.specs.Str.{bytes_eq}
 use Rattle.km_names.specs.First.{first}
 use Rattle.symbol_binding.specs.Symbols.{Export, Need, Face}
 use Rattle.kernel_exports.specs.declared.kernel.Kernel.{Kernel as KernelTable}
-use Rattle.kernel_exports.specs.declared.kernel.KernelExport.{KernelExport}
 -- A module that isn't loaded, by its facts, as symbol binding sees it.
 pub use Rattle.provider_rel.specs.Faces.{need_of_facts as facts_need, face_of as facts_face}
-use Rattle.model_loader.specs.declared.fault.MachineFault.{MachineFault}
-use Rattle.model_loader.specs.declared.fault.MachineFault.TheVariants.{KernelWithoutAddress}
-use Rattle.model_loader.specs.declared.entry.PlacedExport.{PlacedExport}
+-- The exports of a kernel and of modules, at their addresses, and what a table has of them.
+pub use Rattle.export_table.specs.Exports.{export_named, kernel_fault, kernel_placed, standing}
+pub use Rattle.export_table.specs.Exports.{standing_export}
+use Rattle.export_table.specs.declared.placed.PlacedExport.{PlacedExport}
+use Rattle.export_table.specs.declared.standing.Standing.{Standing}
 use Rattle.model_loader.specs.declared.entry.BoundNeed.{BoundNeed}
 use Rattle.model_loader.specs.declared.entry.Entry.{Entry}
 use Rattle.module_region.specs.declared.region.Region.{Region}
-use Rattle.model_loader.specs.declared.standing.Standing.{Standing}
 
 -- A machine. Each export of its kernel has an address.
 pub record Machine : Type 0 where
@@ -28,11 +27,6 @@ pub record Machine : Type 0 where
 -- The machine of a kernel, with no modules.
 abbrev pub new_machine : KernelTable → Region → Machine
 new_machine kernel region = record { kernel = kernel; region = region; entries = [] }
-
--- Why a kernel has no machine: its first export without an address.
-abbrev pub kernel_fault : List KernelExport → Option MachineFault
-kernel_fault exports =
-    option_map (λ e. KernelWithoutAddress e.name) (find (λ e. is_none e.address) exports)
 
 -- An export, a need, and the module of an entry, as symbol binding sees them.
 abbrev pub export_face : PlacedExport → Export
@@ -54,27 +48,6 @@ entry_face e = record {
 abbrev pub is_loaded : Machine → List ℕ → Bool
 is_loaded machine name = list_any (λ e. bytes_eq e.loaded.name name) machine.entries
 
--- An export of the kernel at its address.
-abbrev pub kernel_placed : KernelExport → PlacedExport
-kernel_placed e =
-    record {
-      name = e.name;
-      crc = e.crc;
-      gpl = e.gpl;
-      space = e.space;
-      address = unwrap_or e.address 0;
-    }
-
--- The export of this name.
-abbrev pub export_named : List ℕ → List PlacedExport → Option PlacedExport
-export_named x exports = find (λ e. bytes_eq e.name x) exports
-
--- What the table of a machine has of an export of an owner, which is a module by its name or the
--- kernel.
-abbrev pub standing : Option (List ℕ) → PlacedExport → Standing
-standing owner e =
-    record { crc = e.crc; gpl = e.gpl; space = e.space; address = e.address; owner = owner }
-
 -- The table of a machine: what a name is bound to, with its address and its owner. It is the
 -- kernel's export, and otherwise the export of the module that was loaded first.
 unfoldable pub table : Machine → List ℕ → Option Standing
@@ -84,10 +57,6 @@ table machine x =
     ∷ first (map (λ e. option_map (standing (Some e.loaded.name)) (export_named x e.exports))
     machine.entries)
     ∷ [])
-
--- The export of this name, by what a table has of it.
-abbrev pub standing_export : List ℕ → Standing → Export
-standing_export x s = record { name = x; crc = s.crc; gpl = s.gpl; space = s.space }
 
 -- The export that a name is bound to.
 abbrev pub bound_export : Machine → List ℕ → Option Export

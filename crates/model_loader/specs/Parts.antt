@@ -1,26 +1,14 @@
 -- The parts of an entry and of a machine, as the code makes them.
 -- It belongs to the code: no public meaning rests on it.
-use Rattle.std.specs.Prelude.{◌≡◌, ℕ, List, length, map, slice_index}
-use Rattle.module_symbols.specs.declared.exports.Export.{Export as FactsExport}
+use Rattle.std.specs.Prelude.{◌≡◌, ℕ, List, length, map}
 use Rattle.module_facts.specs.declared.module.Module.{Module}
-use Rattle.model_loader.specs.declared.entry.PlacedExport.{PlacedExport}
 use Rattle.model_loader.specs.declared.entry.Entry.{Entry}
 use Rattle.module_region.specs.declared.region.Region.{Region}
-use Rattle.model_loader.specs.declared.standing.ExportTable.{ExportTable}
+use Rattle.export_table.specs.declared.standing.ExportTable.{ExportTable}
+use Rattle.export_table.specs.Standing.{placed_by}
 use Rattle.model_loader.specs.Machine.{Machine}
 use Rattle.model_loader.specs.Standing.{Keeps}
 use Rattle.model_loader.specs.Step.{bound_need}
-
--- An export of a module, by the addresses of the module's symbols.
-abbrev pub placed_by : List ℕ → FactsExport → PlacedExport
-placed_by addresses e =
-    record {
-      name = e.name;
-      crc = e.crc;
-      gpl = e.gpl;
-      space = e.space;
-      address = slice_index addresses e.symbol;
-    }
 
 -- The entry of a module at a base, by its image and the addresses of its symbols.
 abbrev pub entry_by : Module → ℕ → List ℕ → List ℕ → Entry

@@ -1,7 +1,7 @@
 -- A load: why a machine refuses a module, and the machine with the module. The kernel's load_module
 -- and resolve_symbol, kernel/module/main.c.
-use Rattle.std.specs.Prelude.{ℕ, ◌/◌, ◌-◌, ◌^◌, ◌==◌, nat_lt, Bool, List, [], ◌∷◌, ◌++◌, map, find}
-use Rattle.std.specs.Prelude.{length, Option, Some, None, is_none, option_map, unwrap_or}
+use Rattle.std.specs.Prelude.{ℕ, ◌/◌, ◌-◌, ◌^◌, ◌==◌, nat_lt, List, [], ◌∷◌, ◌++◌, map, find}
+use Rattle.std.specs.Prelude.{length, Option, is_none, option_map, unwrap_or}
 use Rattle.std.specs.Prelude.{option_and_then, Result, Ok, Err, if◌then◌else◌}
 use Rattle.std.specs.List.{range_with_len}
 use Rattle.std.specs.Option.{option_map_or}
@@ -19,12 +19,12 @@ use Rattle.x86_relocate.specs.declared.patch.Overflow.{Overflow as TooWide}
 use Rattle.image_layout.specs.Offsets.{image_size}
 use Rattle.image_layout.specs.Symbols.{address, addresses}
 use Rattle.image_layout.specs.Laid.{laid, overflow}
-use Rattle.model_loader.specs.declared.fault.LoadFault.{LoadFault}
-use Rattle.model_loader.specs.declared.fault.LoadFault.TheVariants.{AlreadyLoaded, MissingSymbol}
-use Rattle.model_loader.specs.declared.fault.LoadFault.TheVariants.{GplOnly, VersionDiffers}
-use Rattle.model_loader.specs.declared.fault.LoadFault.TheVariants.{NotImported, ExportTaken}
-use Rattle.model_loader.specs.declared.fault.LoadFault.TheVariants.{RegionFull, Overflow}
-use Rattle.model_loader.specs.declared.entry.PlacedExport.{PlacedExport}
+use Rattle.load_fault.specs.declared.fault.LoadFault.{LoadFault}
+use Rattle.load_fault.specs.declared.fault.LoadFault.TheVariants.{AlreadyLoaded, MissingSymbol}
+use Rattle.load_fault.specs.declared.fault.LoadFault.TheVariants.{GplOnly, VersionDiffers}
+use Rattle.load_fault.specs.declared.fault.LoadFault.TheVariants.{NotImported, ExportTaken}
+use Rattle.load_fault.specs.declared.fault.LoadFault.TheVariants.{RegionFull, Overflow}
+use Rattle.export_table.specs.declared.placed.PlacedExport.{PlacedExport}
 use Rattle.model_loader.specs.declared.entry.BoundNeed.{BoundNeed}
 use Rattle.model_loader.specs.declared.entry.Entry.{Entry}
 use Rattle.model_loader.specs.Machine.{Machine, bound_export, facts_face, facts_need, is_loaded}

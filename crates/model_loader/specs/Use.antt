@@ -7,7 +7,8 @@ use Rattle.std.specs.Option.{option_map_or}
 use Rattle.symbol_binding.specs.Needs.{is_seen}
 use Rattle.model_loader.specs.declared.entry.BoundNeed.{BoundNeed}
 use Rattle.model_loader.specs.declared.entry.Entry.{Entry}
-use Rattle.model_loader.specs.Machine.{Machine, export_named}
+use Rattle.model_loader.specs.Machine.{Machine}
+use Rattle.export_table.specs.Exports.{export_named}
 
 -- Whether the other entry exports a need of the user, with an export that the user sees.
 abbrev pub is_met_by : Entry → Entry → BoundNeed → Bool

@@ -9,9 +9,9 @@ use Rattle.name_table.specs.NameTable.{Table, place_of}
 use Rattle.symbol_binding.specs.Needs.{is_seen}
 use Rattle.model_loader.specs.declared.entry.BoundNeed.{BoundNeed}
 use Rattle.model_loader.specs.declared.entry.Entry.{Entry}
-use Rattle.model_loader.specs.declared.standing.Standing.{Standing}
-use Rattle.model_loader.specs.declared.standing.ExportTable.{ExportTable}
-use Rattle.model_loader.specs.Standing.{standing_of}
+use Rattle.export_table.specs.declared.standing.Standing.{Standing}
+use Rattle.export_table.specs.declared.standing.ExportTable.{ExportTable}
+use Rattle.export_table.specs.Standing.{standing_of}
 
 -- Whether the owner of an export is the module of this name.
 abbrev pub is_owner : List ℕ → Standing → Bool

@@ -1,5 +1,6 @@
 // The modules in a machine.
 
+use export_table::PlacedExport;
 use km_names::{List, Name, Names};
 use raw_image::Image;
 
@@ -14,18 +15,8 @@ pub struct LoadedModule {
     pub size: u64,
 }
 
-/// An export of a loaded module, at its address.
-#[derive(Debug, Drop)]
-pub(crate) struct PlacedExport {
-    pub(crate) name: Name,
-    pub(crate) crc: Option<u64>,
-    pub(crate) gpl: bool,
-    pub(crate) space: Name,
-    pub(crate) address: u64,
-}
-
 /// A need of a loaded module.
-#[derive(Debug, Drop)]
+#[derive(Drop)]
 pub(crate) struct BoundNeed {
     pub(crate) name: Name,
     pub(crate) weak: bool,

@@ -12,7 +12,7 @@ use crate::entry::Entry;
 use std::alloc::{AllocError, Global};
 
 /// The addresses of an image.
-#[derive(Clone, Copy, Debug)]
+#[derive(Clone, Copy)]
 pub(crate) struct Run {
     base: u64,
     size: u64,

@@ -8,25 +8,22 @@
 //! as the step that the definitions give. Every load keeps the machine sound: each strong need is
 //! bound, no name is taken twice, and no two images overlap.
 //!
-//! The crate builds on `image_layout` for sizes, addresses and images, and on `indexmap` for the
-//! table of exported names. It tests needs with `symbol_binding`, whose tests the lines of
-//! modules.unmet share. Whatever takes memory is done before the first change of the machine.
+//! The crate builds on `image_layout` for sizes, addresses and images, on `export_table` for the
+//! table of exported names and the tests of needs by it, on `symbol_binding` for what a module
+//! sees, and on `load_fault` for refusals. Whatever takes memory is done before the first change of
+//! the machine.
 #![tactic(auto)]
 
 mod entry;
-mod fault;
 mod gap;
-mod given;
 mod machine;
 mod names;
-mod needs;
 mod parts;
 mod prepare;
-mod standing;
 mod uses;
 
 pub use entry::LoadedModule;
-pub use fault::{LoadFault, MachineFault};
 pub use image_layout::section_at;
+pub use load_fault::{LoadFault, MachineFault};
 pub use machine::{LoadedAt, Machine};
 pub use module_region::Region;

@@ -3,29 +3,24 @@
 ghost use Rattle.std.specs.Prelude.{◌≡◌, ◌<◌, ◌≤◌, ◌⊎◌, ◌++◌, ◌∷◌, [], ℕ, List, None, Ok, Err};
 ghost use Rattle.std.specs.Prelude.{Some, OnOk, OnErr, IfErr, IfOk, find, length, map, option_map};
 ghost use Rattle.std.specs.Prelude.{remove, vec_capacity, vec_len, slice_get, option_copied};
-ghost use Rattle.std.specs.Prelude.{is_none, false, if◌then◌else◌};
-ghost use Rattle.std.specs.HashMap.{spare};
 ghost use Rattle.std.specs.Option.{option_or};
 ghost use Rattle.std.specs.Str.{bytes_eq};
 ghost use Rattle.kernel_exports.specs.declared.kernel.Kernel.{Kernel};
 ghost use Rattle.module_facts.specs.declared.module.Module.{Module};
-ghost use Rattle.model_loader.specs.Machine.{export_named, kernel_fault, kernel_placed};
-ghost use Rattle.model_loader.specs.Machine.{new_machine, standing};
-ghost use Rattle.model_loader.specs.declared.fault.MachineFault.TheVariants.{KernelWithoutAddress};
-ghost use Rattle.model_loader.specs.Standing.{export_pair, named_pair, standing_in, standing_of};
+ghost use Rattle.export_table.specs.Exports.{kernel_fault};
+ghost use Rattle.export_table.specs.Standing.{standing_in, standing_of, table_room};
+ghost use Rattle.model_loader.specs.Machine.{new_machine};
 ghost use Rattle.model_loader.specs.Sound.{IsSound};
 ghost use Rattle.model_loader.specs.Use.{AreUses, IsUnused, binds, without};
-ghost use Rattle.model_loader.specs.Step.{entry_at, module_base, module_size, refusal, step};
+ghost use Rattle.model_loader.specs.Step.{module_base, module_size, step};
 
 use crate::entry::{Entry, LoadedModule};
-use crate::names::check_names;
-use crate::prepare::{Prepared, prepare};
-use crate::standing::{ExportTable, Named, Standing};
+use crate::prepare::{Prepared, ready};
 use crate::uses::{all_bound_places, binds_to, places_of};
 use crate::{LoadFault, MachineFault, Region};
-use km_names::Name;
+use export_table::{ExportTable, kernel_table};
 use module_facts::Module;
-use provider_rel::{Kernel, KernelExport};
+use provider_rel::Kernel;
 use std::alloc::{AllocError, Global};
 use std::marker::Model;
 
@@ -62,82 +57,10 @@ pub struct LoadedAt {
     pub size: u64,
 }
 
-/// Returns what the table keeps of an export of the kernel at an address.
-fn named_kernel_export(
-    alloc: Global,
-    export: &KernelExport,
-    address: u64,
-) -> Result<Named, AllocError>
-    requires { export.now.address ≡ Some address }
-    ensures { IfOk result (λ n. named_pair n ≡ export_pair None (kernel_placed export.now)) }
-{
-    let name = Vec::from_slice(alloc, export.name.as_bytes())?;
-    let space = Name::from_slice(alloc, export.space.as_bytes())?;
-    let standing = Standing {
-        crc: export.crc,
-        gpl: export.gpl,
-        space,
-        address,
-        owner: None,
-    };
-    Ok(Named { name, standing })
-}
-
-/// Returns the refusal of a kernel for an export without an address.
-fn without_address(alloc: Global, export: &KernelExport) -> Result<MachineFault, AllocError>
-    ensures { IfOk result (λ e. e ≡ KernelWithoutAddress export.now.name) }
-{
-    Ok(MachineFault::KernelWithoutAddress {
-        name: Name::from_slice(alloc, export.name.as_bytes())?,
-    })
-}
-
-/// Enters an export of a kernel into a table, unless it has no address.
-fn enter_export(
-    alloc: Global,
-    table: &mut ExportTable,
-    export: &KernelExport,
-) -> Result<(), MachineFault>
-    ensures table { OnOk result ((x : List ℕ) → standing_of table.new x
-        ≡ option_or (standing_of table.old x)
-        (if bytes_eq export.now.name x
-        then Some (standing None (kernel_placed export.now))
-        else None)) }
-    ensures passed { OnOk result (is_none export.now.address ≡ false) }
-    ensures fault { IfErr result (λ e. (e ≡ MachineFault.Memory)
-        ⊎ ((export.now.address ≡ None) × (e ≡ KernelWithoutAddress export.now.name))) }
-{
-    let Some(address) = export.address else {
-        return Err(without_address(alloc, export)?);
-    };
-    table.reserve(1)?;
-    let named = named_kernel_export(alloc, export, address)?;
-    table.enter(named);
-    Ok(())
-}
-
-/// Returns the table of the exports of a kernel.
-fn kernel_table(alloc: Global, kernel: &Kernel) -> Result<ExportTable, MachineFault>
-    ensures table { IfOk result
-        (λ t. (x : List ℕ)
-        → standing_of t x
-        ≡ option_map (standing None)
-        (export_named x (map kernel_placed kernel.now.exports))) }
-    ensures passed { OnOk result (kernel_fault kernel.now.exports ≡ None) }
-    ensures fault { IfErr result
-        (λ e. (e ≡ MachineFault.Memory) ⊎ (kernel_fault kernel.now.exports ≡ Some e)) }
-{
-    let mut table = ExportTable::new(alloc);
-    for export in kernel.exports.as_slice() {
-        enter_export(alloc, &mut table, export)?;
-    }
-    Ok(table)
-}
-
 /// Enters what was prepared for a module. Its memory is reserved, so this takes none.
 fn enter(entries: &mut Vec<Entry>, table: &mut ExportTable, prepared: Prepared)
     requires entries { vec_len entries.old < vec_capacity entries.old }
-    requires names { length prepared.named.items ≤ spare table.old.standings }
+    requires names { length prepared.named.items ≤ table_room table.old }
     ensures entries { entries.new.items ≡ entries.old.items ++ prepared.entry ∷ [] }
     ensures table { (x : List ℕ)
         → standing_of table.new x
@@ -171,22 +94,6 @@ impl Machine {
         })
     }
 
-    /// Returns the prepared entry of a module, after all tests that it must pass.
-    fn ready(&self, module: &Module) -> Result<Prepared, LoadFault>
-        ensures entry { IfOk result
-            (λ p. p.entry ≡ entry_at self.now «module».now (module_base self.now «module».now)) }
-        ensures named { IfOk result
-            (λ p. map named_pair p.named.items
-            ≡ map (export_pair (Some p.entry.loaded.name)) p.entry.exports) }
-        ensures passed { OnOk result (refusal self.now «module».now ≡ None) }
-        ensures fault { IfErr result
-            (λ e. (e ≡ LoadFault.Memory) ⊎ (refusal self.now «module».now ≡ Some e)) }
-    {
-        check_names(self.alloc, &self.entries, &self.table, &module.facts)?;
-        let prepared = prepare(self.alloc, &self.region, &self.entries, &self.table, module)?;
-        Ok(prepared)
-    }
-
     /// Loads a module at the lowest gap of the region, with its needs bound and its words
     /// relocated. Whatever takes memory is done before the first change. After a refusal the
     /// machine is as before.
@@ -207,9 +114,9 @@ impl Machine {
             ((modules : List Module) → IsSound self.old modules
             → IsSound self.new (modules ++ «module».now ∷ [])) }
     {
-        let prepared = self.ready(module)?;
         self.entries.reserve(1)?;
-        self.table.reserve(prepared.named.len())?;
+        self.table.reserve(module.facts.exports.as_slice().len())?;
+        let prepared = ready(self.alloc, &self.region, &self.entries, &self.table, module)?;
         let at = LoadedAt {
             base: prepared.entry.loaded.base,
             size: prepared.entry.loaded.size,

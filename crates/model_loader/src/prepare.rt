@@ -8,18 +8,19 @@ ghost use Rattle.model_loader.specs.declared.prepare.Prepared.{Prepared};
 ghost use Rattle.model_loader.specs.Machine.{Machine};
 ghost use Rattle.model_loader.specs.Gap.{gap};
 ghost use Rattle.model_loader.specs.Runs.{IsPaged, run_of};
-ghost use Rattle.model_loader.specs.Standing.{Keeps, export_pair, named_pair};
+ghost use Rattle.export_table.specs.Standing.{export_pair, named_pair};
+ghost use Rattle.model_loader.specs.Standing.{Keeps};
 ghost use Rattle.model_loader.specs.Parts.{HasParts, entry_by};
 ghost use Rattle.model_loader.specs.Step.{entry_at, module_base, module_size, named_pages};
-ghost use Rattle.model_loader.specs.Step.{overflow_fault, placement_tests};
+ghost use Rattle.model_loader.specs.Step.{overflow_fault, placement_tests, refusal};
 
 use crate::entry::{Entry, LoadedModule};
 use crate::gap::lowest_gap;
-use crate::given::given_addresses;
-use crate::parts::{bound_needs, copied_names, named_exports, placed_exports};
-use crate::standing::{ExportTable, Named};
+use crate::names::check_names;
+use crate::parts::{bound_needs, copied_names};
 use crate::{LoadFault, Region};
 use elf_format::PAGE;
+use export_table::{ExportTable, Named, given_addresses, named_exports, placed_exports};
 use image_layout::{Layout, addresses, image_at, image_size};
 use km_names::Name;
 use module_facts::Module;
@@ -34,9 +35,35 @@ pub(crate) struct Prepared {
     pub(crate) named: VecDeque<Named>,
 }
 
-/// Returns the entry of a module in the lowest gap of a region, over the machine that has these
-/// entries and whose exported names are in a table.
-pub(crate) fn prepare(
+/// Returns the entry of a module in the lowest gap of a region, after all tests of a load, over the
+/// machine that has these entries and whose exported names are in a table.
+pub(crate) fn ready(
+    alloc: Global,
+    region: &Region,
+    entries: &[Entry],
+    table: &ExportTable,
+    module: &Module,
+) -> Result<Prepared, LoadFault>
+    requires { All (λ (e : Entry). IsPaged (run_of e)) entries.now }
+    ensures entry { IfOk result (λ p. (machine : Machine)
+        → HasParts machine region.now entries.now table.now
+        → p.entry ≡ entry_at machine «module».now (module_base machine «module».now)) }
+    ensures named { IfOk result
+        (λ p. map named_pair p.named.items
+        ≡ map (export_pair (Some p.entry.loaded.name)) p.entry.exports) }
+    ensures passed { OnOk result ((machine : Machine)
+        → HasParts machine region.now entries.now table.now
+        → refusal machine «module».now ≡ None) }
+    ensures fault { IfErr result (λ e. (machine : Machine)
+        → HasParts machine region.now entries.now table.now
+        → (e ≡ LoadFault.Memory) ⊎ (refusal machine «module».now ≡ Some e)) }
+{
+    check_names(alloc, entries, table, &module.facts)?;
+    prepare(alloc, region, entries, table, module)
+}
+
+/// Returns the entry of a module in the lowest gap of a region, after the tests of its place.
+fn prepare(
     alloc: Global,
     region: &Region,
     entries: &[Entry],

@@ -8,7 +8,7 @@ ghost use Rattle.model_loader.specs.Uses.{AreBoundPlaces, bound_place, is_bound_
 ghost use Rattle.model_loader.specs.Uses.{is_owner, met_place, owner_place, stated_names};
 
 use crate::entry::{BoundNeed, Entry};
-use crate::standing::{ExportTable, Standing};
+use export_table::{ExportTable, Standing};
 use name_table::NameTable;
 use std::alloc::{AllocError, Global};
 use symbol_binding::sees;

@@ -6,9 +6,9 @@ use Rattle.std.specs.Option.{option_map_or}
 use Rattle.module_facts.specs.declared.module.Module.{Module}
 use Rattle.model_loader.specs.declared.entry.Entry.{Entry}
 use Rattle.model_loader.specs.declared.entry.LoadedModule.{LoadedModule}
-use Rattle.model_loader.specs.declared.fault.LoadFault.{LoadFault}
-use Rattle.model_loader.specs.declared.fault.LoadFault.TheVariants.{Memory}
-use Rattle.model_loader.specs.FaultText.{load_fault_text}
+use Rattle.load_fault.specs.declared.fault.LoadFault.{LoadFault}
+use Rattle.load_fault.specs.declared.fault.LoadFault.TheVariants.{Memory}
+use Rattle.load_fault.specs.FaultText.{load_fault_text}
 use Rattle.model_loader.specs.Machine.{Machine}
 use Rattle.image_layout.specs.Offsets.{image_size}
 use Rattle.model_loader.specs.Step.{entry_at, module_base, refusal, step, symbol_addresses}

@@ -15,8 +15,8 @@ use Rattle.kernel_exports.specs.MapLines.{MapSymbol, map_line}
 use Rattle.kernel_exports.specs.TableLines.{refused_line, stated}
 use Rattle.kernel_exports.proofs.NameSteps.{bytes-same}
 use Rattle.module_region.specs.declared.region.Region.{Region}
-use Rattle.model_loader.specs.declared.fault.MachineFault.{MachineFault}
-use Rattle.model_loader.specs.declared.fault.MachineFault.TheVariants as faults
+use Rattle.load_fault.specs.declared.fault.MachineFault.{MachineFault}
+use Rattle.load_fault.specs.declared.fault.MachineFault.TheVariants as faults
 use Rattle.model_loader.specs.Machine.{Machine, new_machine}
 use Rattle.km_course.specs.Course.{Stage, ◌>>=◌, given}
 use Rattle.km_course.specs.Course.Outcome.{value, end}

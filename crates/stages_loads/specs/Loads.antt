@@ -9,8 +9,8 @@ use Rattle.km_names.specs.Path.{path_below}
 use Rattle.module_facts.specs.declared.module.Module.{Module}
 use Rattle.model_loader.specs.declared.entry.Entry.{Entry}
 use Rattle.model_loader.specs.declared.entry.LoadedModule.{LoadedModule}
-use Rattle.model_loader.specs.declared.fault.LoadFault.{LoadFault}
-use Rattle.model_loader.specs.FaultText.{load_fault_text}
+use Rattle.load_fault.specs.declared.fault.LoadFault.{LoadFault}
+use Rattle.load_fault.specs.FaultText.{load_fault_text}
 use Rattle.model_loader.specs.Machine.{Machine}
 use Rattle.model_loader.specs.Step.{entry_at, module_base, step}
 use Rattle.param_apply.specs.declared.apply.Params.{Params}

@@ -1,7 +1,7 @@
 // Loads of the modules of a plan.
 ghost use Rattle.std.specs.Prelude.{◌≡◌, Err, IfOk};
 ghost use Rattle.km_course.specs.FollowsOn.{FollowsOnFilesAndOut, Returns};
-ghost use Rattle.model_loader.specs.FaultText.{load_fault_text};
+ghost use Rattle.load_fault.specs.FaultText.{load_fault_text};
 ghost use Rattle.model_loader.specs.Step.{step};
 ghost use Rattle.stages_loads.specs.Loads.{load_outcome, load_refusal, loads_all, loads_one};
 ghost use Rattle.stages_loads.specs.Read.{loads_read};

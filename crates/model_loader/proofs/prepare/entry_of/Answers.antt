@@ -1,9 +1,9 @@
 use Rattle.std.proofs.Common.{◌≡◌, ◌∙◌, ◌⊎◌, length, ap, sym, subst, Some}
 use Rattle.std.proofs.lemmas.List.FromFn.{length-map-range_with_len}
 use Rattle.image_layout.specs.Laid.{laid}
-use Rattle.model_loader.specs.declared.fault.LoadFault.{LoadFault}
-use Rattle.model_loader.specs.declared.fault.LoadFault.TheVariants.{Memory}
-use Rattle.model_loader.specs.NeedTests.{given_by}
+use Rattle.load_fault.specs.declared.fault.LoadFault.{LoadFault}
+use Rattle.load_fault.specs.declared.fault.LoadFault.TheVariants.{Memory}
+use Rattle.export_table.specs.NeedTests.{given_by}
 use Rattle.model_loader.specs.Step.{symbol_addresses, overflow_fault}
 use Rattle.model_loader.proofs.EntryLemmas.{length-addresses, entry-is, addresses-are, fits-is}
 use Rattle.model_loader.proofs.EntryLemmas.{fault-is}

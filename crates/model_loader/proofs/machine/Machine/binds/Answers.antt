@@ -1,4 +1,4 @@
-use Rattle.std.proofs.Common.{◌≡◌, ◌∙◌, ◌<◌, length, sym, ap, subst}
+use Rattle.std.proofs.Common.{◌∙◌, ◌<◌, length, sym, ap, subst}
 use Rattle.model_loader.specs.Machine.{Machine}
 use Rattle.model_loader.specs.Use.{binds}
 use Rattle.model_loader.proofs.MetLemmas.{binds-is}

@@ -1,11 +1,12 @@
 use Rattle.std.proofs.Common.{◌<◌, ◌∙◌, List, length, ap, sym, subst, cond, None, remove}
 use Rattle.std.specs.Prelude.{is_some}
 use Rattle.model_loader.specs.declared.entry.Entry.{Entry}
-use Rattle.model_loader.specs.declared.entry.PlacedExport.{PlacedExport}
-use Rattle.model_loader.specs.Machine.{Machine, export_named}
+use Rattle.export_table.specs.declared.placed.PlacedExport.{PlacedExport}
+use Rattle.model_loader.specs.Machine.{Machine}
+use Rattle.export_table.specs.Exports.{export_named}
 use Rattle.model_loader.specs.Kept.{IsKept}
 use Rattle.model_loader.specs.Sound.{IsSound}
-use Rattle.model_loader.specs.Standing.{standing_of}
+use Rattle.export_table.specs.Standing.{standing_of}
 use Rattle.model_loader.specs.Use.{without}
 use Rattle.model_loader.proofs.UseLemmas.{sound-without}
 use Rattle.model_loader.proofs.WithoutLemmas.{kept-without}

@@ -2,8 +2,8 @@ use Rattle.std.proofs.Common.{◌∙◌, List, sym, subst, arith}
 use Rattle.model_loader.specs.declared.entry.Entry.{Entry}
 use Rattle.model_loader.specs.Kept.{IsKept}
 use Rattle.model_loader.specs.Machine.{table}
-use Rattle.model_loader.proofs.KernelLemmas.{first-alone}
 use Rattle.model_loader.proofs.SoundLemmas.{exports-new, names-new}
+use Rattle.model_loader.proofs.StepLemmas.{first-alone}
 use Rattle.model_loader.proofs.machine.Machine.new.Goals as goal
 
 pub invariant_of-result : goal.invariant_of-result

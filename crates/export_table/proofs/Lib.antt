@@ -1,0 +1,4 @@
+pub mod TableLemmas
+pub mod GivenLemmas
+pub mod KernelLemmas
+pub mod FirstLemmas

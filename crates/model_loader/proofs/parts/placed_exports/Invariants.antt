@@ -1,6 +1,0 @@
-use Rattle.std.proofs.Common.{◌≡◌, take, map}
-use Rattle.model_loader.specs.Parts.{placed_by}
-use Rattle.model_loader.proofs.parts.placed_exports.Given as goal
-
-abbrev pub invariant-loop-export : goal.invariant-loop-export
-invariant-loop-export l = l.placed ≡ map (placed_by l.addresses) (take l.export-index l.exports)
