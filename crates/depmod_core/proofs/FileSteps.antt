@@ -1,12 +1,12 @@
--- The files one after the other.
-use Rattle.std.proofs.Common.{◌≡◌, sym, ap, ◌∙◌, ◌⊎◌, ⊎_elim, inl, inr, ℕ, List, [], ◌∷◌, length}
-use Rattle.std.proofs.Common.{Option, Some, None, Ok, Err}
-use Rattle.std.specs.Prelude.{Result, IfOk, OnOk}
+-- The files of a tree over a kernel, by a relation.
+use Rattle.std.proofs.Common.{◌≡◌, sym, ap, subst, ◌∙◌, ◌⊎◌, ⊎_elim, inl, inr, ℕ, List, length}
+use Rattle.std.proofs.Common.{Some, None, Ok, Err}
+use Rattle.std.specs.Prelude.{Result, IfOk, IfErr, OnOk}
+use Rattle.std.specs.Result.{result_and}
 use Rattle.std.proofs.lemmas.List.{length-map}
 use Rattle.std.proofs.lemmas.List.FromFn.{length-range_with_len}
 use Rattle.relation_order.specs.Sets.{below}
 use Rattle.relation_order.specs.Closures.{closure}
-use Rattle.km_names.specs.First.{first}
 use Rattle.km_names.specs.Statements.{unless_fault}
 use Rattle.symbol_binding.specs.Symbols.{Kernel}
 use Rattle.module_facts.specs.declared.facts.Facts.{Facts}
@@ -38,42 +38,25 @@ pub same-files : (tree : List Facts) (r : Relation) (builtin : List ℕ) (kernel
 unfolding files
 same-files tree r builtin kernel is = λ i. files_by tree (is.closures i) (is.obstacles i) builtin
 
--- the tests in their order
-pub passed : {F : Type 0} {o : Option F} (rest : List (Option F)) (r : Option F) → o ≡ None
-    → first rest ≡ r → first (o ∷ rest) ≡ r
-passed rest r none is = ap (λ x. first (x ∷ rest)) none ∙ is
+-- what is made is handed out, unless there is a fault
+handed-ok : {A B E : Type 0} (r : Result B E) (a : A) (Q : Type 0) (P : A → Type 0) → OnOk r Q
+    → (Q → P a) → IfOk (result_and r (Ok a)) P
+handed-ok (Ok b) a Q P is each = each is
+handed-ok (Err e) a Q P is each = tt
 
-pub failed : {F : Type 0} {o : Option F} (rest : List (Option F)) (fault : F) → o ≡ Some fault
-    → first (o ∷ rest) ≡ Some fault
-failed rest fault some = ap (λ x. first (x ∷ rest)) some
+pub and-ok : {A B E : Type 0} (r : Result B E) (a : A) (result : Result A E) (Q : Type 0)
+    (P : A → Type 0)
+    → result ≡ result_and r (Ok a) → OnOk r Q → (Q → P a) → IfOk result P
+and-ok r a result Q P is one each = subst (λ s. IfOk s P) (sym is) (handed-ok r a Q P one each)
 
--- the tests in their order, two at a time
-pub passed-pair : {F : Type 0} (a b : Option F) (rest : List (Option F)) (r : Option F)
-    → first (a ∷ b ∷ []) ≡ None → first rest ≡ r → first (a ∷ b ∷ rest) ≡ r
-passed-pair None None rest r none is = is
-passed-pair None (Some f) rest r none is = cc
-passed-pair (Some f) b rest r none is = cc
+handed-err : {A B E : Type 0} (r : Result B E) (a : A) (P Q : E → Type 0) → IfErr r P
+    → ((e : E) → P e → Q e) → IfErr (result_and r (Ok a)) Q
+handed-err (Ok b) a P Q is each = tt
+handed-err (Err e) a P Q is each = each e is
 
-pub failed-pair : {F : Type 0} (a b : Option F) (rest : List (Option F)) (fault : F)
-    → first (a ∷ b ∷ []) ≡ Some fault → first (a ∷ b ∷ rest) ≡ Some fault
-failed-pair None None rest fault is = cc
-failed-pair None (Some f) rest fault is = is
-failed-pair (Some f) b rest fault is = is
-
-pub right : {A X Y : Type 0} → (X → Y) → A ⊎ X → A ⊎ Y
-right f (inl a) = inl a
-right f (inr x) = inr (f x)
-
--- two promises of one result
-pub both : {A E : Type 0} (r : Result A E) (P P' Q : A → Type 0) → ((a : A) → P a → P' a → Q a)
-    → IfOk r P → IfOk r P' → IfOk r Q
-both (Ok a) P P' Q f p p' = f a p p'
-both (Err e) P P' Q f p p' = tt
-
-pub both-on : {A E : Type 0} (r : Result A E) (P : A → Type 0) (B : Type 0) (Q : A → Type 0)
-    → ((a : A) → P a → B → Q a) → IfOk r P → OnOk r B → IfOk r Q
-both-on (Ok a) P B Q f p b = f a p b
-both-on (Err e) P B Q f p b = tt
+pub and-err : {A B E : Type 0} (r : Result B E) (a : A) (result : Result A E) (P Q : E → Type 0)
+    → result ≡ result_and r (Ok a) → IfErr r P → ((e : E) → P e → Q e) → IfErr result Q
+and-err r a result P Q is one each = subst (λ s. IfErr s Q) (sym is) (handed-err r a P Q one each)
 
 -- a file that is too large
 pub refused : (tree : List Facts) (r : Relation) (builtin : List ℕ) (e : OutputFault) (P : Type 0)

@@ -1,6 +1,6 @@
-pub mod TextSteps
+pub mod SizeSteps
 pub mod KeySteps
-pub mod MapSteps
 pub mod LineSteps
 pub mod FileSteps
+pub mod MakingSteps
 pub mod UnmetSteps

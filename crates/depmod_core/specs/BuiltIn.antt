@@ -6,7 +6,7 @@ use Rattle.km_names.specs.Lines.{lines_of}
 use Rattle.km_names.specs.Path.{module_name}
 use Rattle.index_format.specs.Map.{KeyValues}
 use Rattle.name_table.specs.FirstSeen.{first_seen}
-use Rattle.depmod_core.specs.Maps.{map_of}
+use Rattle.stated_texts.specs.Maps.{map_of}
 
 -- The names of the modules whose paths a modules.builtin lists, each once. A name that isn't a word
 -- of visible characters is left out, and so is the name from a blank line.

@@ -5,8 +5,8 @@ use Rattle.std.specs.Option.{option_map_or}
 use Rattle.index_format.specs.Map.{KeyValues}
 use Rattle.index_format.specs.Listing.{KeyValue}
 use Rattle.module_facts.specs.declared.facts.Facts.{Facts}
-use Rattle.depmod_core.specs.Lines.{lines_text}
-use Rattle.depmod_core.specs.Maps.{map_of}
+use Rattle.stated_texts.specs.Lines.{lines_text}
+use Rattle.stated_texts.specs.Maps.{map_of}
 
 -- A dependency line: the path of a module, a `:`, and the paths of the modules that it needs, each
 -- after a space.

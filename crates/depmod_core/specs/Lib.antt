@@ -1,10 +1,5 @@
-pub mod Lines
-pub mod Maps
 pub mod Dependencies
-pub mod Stated
 pub mod BuiltIn
 pub mod Files
-pub mod Text
-pub mod Kinds
-pub mod AllStated
+pub mod Making
 pub mod Worked

@@ -6,7 +6,7 @@ ghost use Rattle.km_names.specs.Lines.{lines_of};
 ghost use Rattle.km_names.specs.Path.{module_name};
 ghost use Rattle.name_table.specs.FirstSeen.{first_seen};
 ghost use Rattle.depmod_core.specs.BuiltIn.{built_in_map};
-ghost use Rattle.depmod_core.specs.Maps.{map_of};
+ghost use Rattle.stated_texts.specs.Maps.{map_of};
 
 use index_write::KeyMap;
 use km_names::{Names, PathText, first_line, is_graphic, module_name};

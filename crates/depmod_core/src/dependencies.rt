@@ -1,39 +1,36 @@
 // What the modules of a tree depend on.
-ghost use Rattle.std.specs.Prelude.{◌≡◌, ◌≤◌, ◌⊎◌, Some, None, OnOk, IfOk, IfErr, length};
+ghost use Rattle.std.specs.Prelude.{◌≡◌, Some, None, OnOk, IfOk, length};
 ghost use Rattle.provider_rel.specs.Tree.{IsTree};
 ghost use Rattle.provider_rel.specs.Seen.{closures_by, places_of};
-ghost use Rattle.depmod_core.specs.Files.{size_fault};
-ghost use Rattle.depmod_core.specs.Text.{with_piece};
+ghost use Rattle.stated_texts.specs.Text.{with_piece};
 ghost use Rattle.depmod_core.specs.Dependencies.{path_at, line_of, dep_text, dep_map};
 
-use crate::text::Text;
-use crate::{OutputFault, OutputFile};
 use index_write::KeyMap;
 use km_names::{Blob, TreeIndex};
 use module_facts::Facts;
 use provider_rel::{Order, Relation, TreeFacts};
+use stated_texts::Text;
 use std::alloc::{AllocError, Global};
 
-/// Returns the text of modules.dep. For each module it has its path, and the paths of the modules
-/// on which it depends, from the last to the first. modules.dep(5).
-pub(crate) fn dep_text(
-    alloc: Global,
+/// Puts the text of modules.dep. For each module it has its path, and the paths of the modules on
+/// which it depends, from the last to the first. modules.dep(5).
+pub(crate) fn put_dep_text(
+    text: &mut Text,
     relation: &Relation,
     tree: &TreeFacts,
-) -> Result<Blob, OutputFault>
+) -> Result<(), AllocError>
     requires tree { IsTree tree.now }
     requires long { length (closures_by relation.now) ≡ length tree.now }
-    ensures ok { IfOk result (λ bytes. bytes ≡ dep_text tree.now (closures_by relation.now)) }
-    ensures passed { OnOk result
-        (size_fault OutputFile.Dep (dep_text tree.now (closures_by relation.now)) ≡ None) }
-    ensures err { IfErr result (λ fault. (fault ≡ OutputFault.Memory)
-        ⊎ (size_fault OutputFile.Dep (dep_text tree.now (closures_by relation.now)) ≡ Some fault)) }
+    ensures { OnOk result
+        (text.new ≡ with_piece text.old (dep_text tree.now (closures_by relation.now))) }
 {
-    let mut measured = Text::measured();
-    put_lines(&mut measured, relation, tree)?;
-    let mut text = Text::with_capacity(alloc, measured.checked_length(alloc, OutputFile::Dep)?)?;
-    put_lines(&mut text, relation, tree)?;
-    Ok(text.into_bytes(alloc))
+    let modules = tree.as_slice();
+    for place in 0..modules.len() {
+        let order = relation.closure(TreeIndex(place as u32));
+        put_line(text, tree, &modules[place], order)?;
+        text.put(b"\n")?;
+    }
+    Ok(())
 }
 
 /// Returns the map of modules.dep.bin, from the name of each module to its dependency line. The
@@ -56,22 +53,6 @@ pub(crate) fn dep_map(
         map.add(facts.name.as_bytes(), place as u32, line.as_bytes())?;
     }
     Ok(map)
-}
-
-/// Puts the text of modules.dep.
-fn put_lines(text: &mut Text, relation: &Relation, tree: &TreeFacts) -> Result<(), AllocError>
-    requires few { length tree.now ≤ 10000 }
-    requires long { length (closures_by relation.now) ≡ length tree.now }
-    ensures { OnOk result
-        (text.new ≡ with_piece text.old (dep_text tree.now (closures_by relation.now))) }
-{
-    let modules = tree.as_slice();
-    for place in 0..modules.len() {
-        let order = relation.closure(TreeIndex(place as u32));
-        put_line(text, tree, &modules[place], order)?;
-        text.put(b"\n")?;
-    }
-    Ok(())
 }
 
 /// Returns the dependency line of a module.

@@ -4,7 +4,7 @@
 //! map in kmod's index format, and represents that map. The length of a file is known before a byte
 //! of it is written.
 //!
-//! The crate builds on `module_facts` for what modules state, and on `provider_rel` for what they
+//! The crate builds on `stated_texts` for what modules state, and on `provider_rel` for what they
 //! depend on and what they lack. It builds on `unmet_file` for the lines of modules.unmet, and on
 //! `index_write`, which makes the indexes.
 #![tactic(auto)]
@@ -15,8 +15,8 @@ mod fault;
 mod file;
 mod files;
 mod index;
-mod stated;
-mod text;
+mod making;
+mod size;
 mod unmet;
 mod worked;
 

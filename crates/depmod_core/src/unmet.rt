@@ -1,36 +1,19 @@
 // The obstacles to loading modules.
-ghost use Rattle.std.specs.Prelude.{◌≡◌, ◌⊎◌, ◌++◌, Some, None, OnOk, IfOk, IfErr};
+ghost use Rattle.std.specs.Prelude.{◌≡◌, OnOk};
 ghost use Rattle.unmet_file.specs.Line.{line_text, first_word, two_text, three_text};
 ghost use Rattle.unmet_file.specs.Unmet.{file_text};
-ghost use Rattle.depmod_core.specs.Files.{size_fault};
-ghost use Rattle.depmod_core.specs.Lines.{ended};
-ghost use Rattle.depmod_core.specs.Text.{with_piece};
+ghost use Rattle.stated_texts.specs.Lines.{ended};
+ghost use Rattle.stated_texts.specs.Text.{with_piece};
 
-use crate::text::Text;
-use crate::{OutputFault, OutputFile};
-use km_names::{Blob, Name, PathText};
+use km_names::{Name, PathText};
 use provider_rel::{Obstacles, Unbound};
-use std::alloc::{AllocError, Global};
+use stated_texts::Text;
+use std::alloc::AllocError;
 use unmet_file::LineKind;
-
-/// Returns the text of modules.unmet.
-pub(crate) fn unmet_text(alloc: Global, lines: &Obstacles) -> Result<Blob, OutputFault>
-    ensures ok { IfOk result (λ bytes. bytes ≡ file_text lines.now) }
-    ensures passed { OnOk result (size_fault OutputFile.Unmet (file_text lines.now) ≡ None) }
-    ensures err { IfErr result
-        (λ fault. (fault ≡ OutputFault.Memory)
-        ⊎ (size_fault OutputFile.Unmet (file_text lines.now) ≡ Some fault)) }
-{
-    let mut measured = Text::measured();
-    put_lines(&mut measured, lines)?;
-    let mut text = Text::with_capacity(alloc, measured.checked_length(alloc, OutputFile::Unmet)?)?;
-    put_lines(&mut text, lines)?;
-    Ok(text.into_bytes(alloc))
-}
 
 /// Puts the text of modules.unmet.
 #[tactic(auto, unfolding(unmet_file::specs::Unmet::file_text))]
-fn put_lines(text: &mut Text, lines: &Obstacles) -> Result<(), AllocError>
+pub(crate) fn put_unmet_text(text: &mut Text, lines: &Obstacles) -> Result<(), AllocError>
     ensures { OnOk result (text.new ≡ with_piece text.old (file_text lines.now)) }
 {
     for line in lines.as_slice() {

@@ -2,13 +2,13 @@
 ghost use Rattle.std.specs.Prelude.{◌≡◌, ◌∷◌, [], codes};
 ghost use Rattle.index_format.specs.Worked.{two_modules};
 ghost use Rattle.depmod_core.specs.Dependencies.{dep_text, dep_map};
-ghost use Rattle.depmod_core.specs.Stated.{alias_text, softdep_text, symbols_text};
+ghost use Rattle.stated_texts.specs.Stated.{alias_text, softdep_text, symbols_text};
 ghost use Rattle.depmod_core.specs.BuiltIn.{built_in_names};
 ghost use Rattle.depmod_core.specs.Worked.{a_ko, b_ko, c_ko, x_ko};
 
 /// States the texts of small trees: one of three modules that each depend on those before it, and
 /// one of a module that states something.
-#[tactic(auto, unfolding(crate::specs::Dependencies::dep_text, crate::specs::Stated::alias_text, crate::specs::Stated::softdep_text, crate::specs::Stated::symbols_text, crate::specs::Stated::is_usable_alias, crate::specs::Stated::is_usable_softdep, crate::specs::BuiltIn::built_in_names, km_names::specs::Ascii::is_graphic, km_names::specs::AliasForm::normal_alias, km_names::specs::Lines::lines_of))]
+#[tactic(auto, unfolding(crate::specs::Dependencies::dep_text, stated_texts::specs::Stated::alias_text, stated_texts::specs::Stated::softdep_text, stated_texts::specs::Stated::symbols_text, stated_texts::specs::Stated::is_usable_alias, stated_texts::specs::Stated::is_usable_softdep, crate::specs::BuiltIn::built_in_names, km_names::specs::Ascii::is_graphic, km_names::specs::AliasForm::normal_alias, km_names::specs::Lines::lines_of))]
 pub fn texts_of_small_trees()
     ensures dep { dep_text (a_ko ∷ b_ko ∷ c_ko ∷ []) ([] ∷ (0 ∷ []) ∷ (0 ∷ 1 ∷ []) ∷ [])
         ≡ codes "kernel/a.ko:\nkernel/b.ko: kernel/a.ko\nkernel/c.ko: kernel/b.ko kernel/a.ko\n" }

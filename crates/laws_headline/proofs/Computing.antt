@@ -49,11 +49,11 @@ use Rattle.provider_rel.specs.Relation as provider_rel_relation
 use Rattle.provider_rel.specs.Seen as provider_rel_seen
 use Rattle.kernel_exports.specs.SymversLines as kernel_exports_symverslines
 use Rattle.kernel_exports.specs.TableLines as kernel_exports_tablelines
+use Rattle.stated_texts.specs.Stated as stated_texts_stated
+use Rattle.stated_texts.specs.Text as stated_texts_text
 use Rattle.depmod_core.specs.BuiltIn as depmod_core_builtin
 use Rattle.depmod_core.specs.Dependencies as depmod_core_dependencies
 use Rattle.depmod_core.specs.Files as depmod_core_files
-use Rattle.depmod_core.specs.Stated as depmod_core_stated
-use Rattle.depmod_core.specs.Text as depmod_core_text
 use Rattle.x86_relocate.specs.Patched as x86_relocate_patched
 use Rattle.x86_relocate.specs.Word as x86_relocate_word
 use Rattle.image_layout.specs.Laid as image_layout_laid
@@ -145,10 +145,10 @@ unfolding lib.Count.ones km_names_aliasform.normal_alias km_names_ascii.is_graph
     kernel_exports_tablelines.stated depmod_core_builtin.built_in_names
     depmod_core_builtin.built_in_map depmod_core_dependencies.dep_text
     depmod_core_dependencies.dep_map depmod_core_files.files_by depmod_core_files.files
-    depmod_core_files.output_fault depmod_core_files.outputs_of depmod_core_stated.is_usable_alias
-    depmod_core_stated.is_usable_softdep depmod_core_stated.alias_text
-    depmod_core_stated.softdep_text depmod_core_stated.symbols_text depmod_core_stated.alias_map
-    depmod_core_stated.symbols_map depmod_core_text.with_piece x86_relocate_patched.patched
+    depmod_core_files.output_fault depmod_core_files.outputs_of stated_texts_stated.is_usable_alias
+    stated_texts_stated.is_usable_softdep stated_texts_stated.alias_text
+    stated_texts_stated.softdep_text stated_texts_stated.symbols_text stated_texts_stated.alias_map
+    stated_texts_stated.symbols_map stated_texts_text.with_piece x86_relocate_patched.patched
     x86_relocate_word.word image_layout_laid.patch_of image_layout_laid.laid
     image_layout_laid.overflow image_layout_offsets.aligned image_layout_offsets.class_of
     image_layout_offsets.end_of image_layout_offsets.fixed_start image_layout_offsets.variable_start

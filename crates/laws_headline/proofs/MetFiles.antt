@@ -12,10 +12,10 @@ use Rattle.symbol_binding.specs.Symbols.{Kernel}
 use Rattle.symbol_binding.specs.Unmet.{unmet}
 use Rattle.provider_rel.specs.Faces.{modules_of}
 use Rattle.provider_rel.specs.Relation.{dependencies, relation_fault}
+use Rattle.stated_texts.specs.Stated.{alias_map, symbols_map}
 use Rattle.depmod_core.specs.BuiltIn.{built_in_map}
 use Rattle.depmod_core.specs.Dependencies.{dep_map}
 use Rattle.depmod_core.specs.Files.{files, files_by, output_fault}
-use Rattle.depmod_core.specs.Stated.{alias_map, symbols_map}
 use Rattle.depmod_core.specs.declared.files.OutputFiles.{OutputFiles}
 use Rattle.stages_files.specs.KernelTable.{Table, seen_kernel}
 use Rattle.laws_headline.specs.Objects.{earlier_facts, giver_facts, taker_facts}

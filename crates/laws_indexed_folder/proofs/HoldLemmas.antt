@@ -10,7 +10,7 @@ use Rattle.index_write.proofs.StorableMaps.{Fits, map-holds}
 use Rattle.index_write.proofs.VisibleWords.{graphic-key}
 use Rattle.module_facts.specs.declared.facts.Facts.{Facts}
 use Rattle.provider_rel.specs.Tree.{IsTree, IsTreeModule}
-use Rattle.depmod_core.specs.Maps.{map_of}
+use Rattle.stated_texts.specs.Maps.{map_of}
 use Rattle.depmod_core.specs.Dependencies.{dep_map}
 use Rattle.depmod_core.proofs.LineSteps.{line-text}
 use Rattle.laws_closed_plans.specs.Members.{Member}

@@ -21,7 +21,7 @@ use Rattle.relation_order.specs.Closures.{closure, closures}
 use Rattle.module_facts.specs.declared.facts.Facts.{Facts}
 use Rattle.provider_rel.specs.Faces.{module_of, modules_of}
 use Rattle.provider_rel.specs.Relation.{uses_at, dependencies}
-use Rattle.depmod_core.specs.Maps.{with_values}
+use Rattle.stated_texts.specs.Maps.{with_values}
 use Rattle.depmod_core.specs.Dependencies.{dep_value, dep_map, line_of}
 use Rattle.laws_closed_plans.specs.Members.{Member}
 use Rattle.laws_closed_plans.proofs.UnmetLemmas.{all-member}

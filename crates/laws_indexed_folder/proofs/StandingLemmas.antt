@@ -20,6 +20,8 @@ use Rattle.module_facts.specs.declared.facts.Facts.{Facts}
 use Rattle.provider_rel.specs.Faces.{modules_of}
 use Rattle.provider_rel.specs.Relation.{dependencies}
 use Rattle.provider_rel.specs.Tree.{IsTree, IsTreeModule}
+use Rattle.stated_texts.specs.Stated.{alias_map, alias_values, is_usable_alias, symbol_values}
+use Rattle.stated_texts.specs.Stated.{symbols_map}
 use Rattle.depmod_core.specs.declared.file.OutputFile.{OutputFile}
 use Rattle.depmod_core.specs.declared.file.OutputFile.TheVariants.{Dep, DepBin, Alias, AliasBin}
 use Rattle.depmod_core.specs.declared.file.OutputFile.TheVariants.{Softdep, Symbols, SymbolsBin}
@@ -27,8 +29,6 @@ use Rattle.depmod_core.specs.declared.file.OutputFile.TheVariants.{BuiltinBin, U
 use Rattle.depmod_core.specs.declared.files.OutputFiles.{OutputFiles}
 use Rattle.depmod_core.specs.BuiltIn.{built_in_map, built_in_names}
 use Rattle.depmod_core.specs.Files.{content, files, files_by, output_fault, size_fault}
-use Rattle.depmod_core.specs.Stated.{alias_map, alias_values, is_usable_alias, symbol_values}
-use Rattle.depmod_core.specs.Stated.{symbols_map}
 use Rattle.depmod_core.proofs.KeySteps.{kept-passes, seen-passes}
 use Rattle.depmod_core.proofs.UnmetSteps.{unmet-back}
 use Rattle.laws_closed_plans.specs.Members.{Member}

@@ -19,12 +19,12 @@ use Rattle.unmet_file.specs.Unmet.{unmet_of}
 use Rattle.module_facts.specs.declared.facts.Facts.{Facts}
 use Rattle.kernel_exports.specs.declared.kernel.Kernel.{Kernel}
 use Rattle.provider_rel.specs.Faces.{modules_of, kernel_of}
+use Rattle.stated_texts.specs.Stated.{softdep_text}
 use Rattle.depmod_core.specs.declared.file.OutputFile.{OutputFile}
 use Rattle.depmod_core.specs.declared.file.OutputFile.TheVariants.{AliasBin, BuiltinBin, DepBin}
 use Rattle.depmod_core.specs.declared.file.OutputFile.TheVariants.{Softdep, SymbolsBin, Unmet}
 use Rattle.depmod_core.specs.declared.files.OutputFiles.{OutputFiles}
 use Rattle.depmod_core.specs.Files.{StandFor, content, files, files_by}
-use Rattle.depmod_core.specs.Stated.{softdep_text}
 use Rattle.laws_indexed_folder.specs.Indexed.{HasFile, Indexed}
 use Rattle.laws_indexed_folder.proofs.IndexedLemmas.{folders-read}
 use Rattle.laws_indexed_folder.proofs.StandingLemmas.{file-within, files-stand}

@@ -32,9 +32,9 @@ use Rattle.modprobe_conf.specs.Rules.{command_of, rule_of, rule_of_command, rule
 use Rattle.modprobe_conf.specs.Rules.{unless_empty, words_after}
 use Rattle.module_facts.specs.declared.facts.Facts.{Facts}
 use Rattle.provider_rel.specs.Tree.{IsTree, IsTreeModule}
-use Rattle.depmod_core.specs.Lines.{lines_text}
-use Rattle.depmod_core.specs.Stated.{is_printable, is_usable_softdep, softdep_lines, softdep_text}
-use Rattle.depmod_core.specs.Stated.{softdeps_of}
+use Rattle.stated_texts.specs.Lines.{lines_text}
+use Rattle.stated_texts.specs.Stated.{is_printable, is_usable_softdep, softdep_lines, softdep_text}
+use Rattle.stated_texts.specs.Stated.{softdeps_of}
 use Rattle.laws_closed_plans.specs.Members.{Member}
 use Rattle.laws_closed_plans.proofs.UnmetLemmas.{all-member}
 use Rattle.laws_planned_loads.specs.Reading.{softdep_of, softdep_rules}

@@ -20,9 +20,9 @@ use Rattle.module_facts.specs.declared.facts.Facts.{Facts}
 use Rattle.symbol_binding.specs.Unmet.{unmet}
 use Rattle.kernel_exports.specs.declared.kernel.Kernel.{Kernel}
 use Rattle.provider_rel.specs.Faces.{modules_of, kernel_of}
+use Rattle.stated_texts.specs.Stated.{softdeps_of}
 use Rattle.depmod_core.specs.declared.files.OutputFiles.{OutputFiles}
 use Rattle.depmod_core.specs.Files.{StandFor, files}
-use Rattle.depmod_core.specs.Stated.{softdeps_of}
 use Rattle.name_lookup.specs.declared.indexes.Indexes.{Indexes}
 use Rattle.laws_indexed_folder.specs.Indexed.{Indexed}
 use Rattle.stages_files.specs.Configuration.{reads_configuration, stated_outcome}

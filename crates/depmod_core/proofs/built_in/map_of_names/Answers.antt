@@ -5,7 +5,7 @@ use Rattle.std.proofs.lemmas.Option.{slice_get-get_or}
 use Rattle.km_names.specs.Ascii.{is_graphic}
 use Rattle.index_write.proofs.VisibleWords.{graphic-key}
 use Rattle.depmod_core.proofs.KeySteps.{passes-at}
-use Rattle.depmod_core.proofs.MapSteps.{value-found}
+use Rattle.stated_texts.proofs.MapSteps.{value-found}
 use Rattle.depmod_core.proofs.built_in.map_of_names.Goals as goal
 use Rattle.depmod_core.proofs.built_in.map_of_names.Goals.{in-Some+in_ok-add, in_default}
 

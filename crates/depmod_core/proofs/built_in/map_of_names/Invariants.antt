@@ -1,5 +1,5 @@
 use Rattle.std.proofs.Common.{◌≡◌, [], ℕ, List, map, take}
-use Rattle.depmod_core.specs.Maps.{map_of}
+use Rattle.stated_texts.specs.Maps.{map_of}
 use Rattle.depmod_core.proofs.built_in.map_of_names.Given as goal
 
 abbrev pub invariant-loop-place : goal.invariant-loop-place

@@ -10,10 +10,11 @@ use Rattle.index_write.proofs.VisibleWords.{graphic-key}
 use Rattle.module_facts.specs.declared.facts.Facts.{Facts}
 use Rattle.provider_rel.specs.Tree.{IsTreeModule}
 use Rattle.provider_rel.specs.Seen.{closures_by, places_of}
-use Rattle.depmod_core.specs.Maps.{map_of}
+use Rattle.stated_texts.specs.Maps.{map_of}
 use Rattle.depmod_core.specs.Dependencies.{Dependent, dep_value, dep_map}
-use Rattle.depmod_core.proofs.MapSteps.{value-found, placed, zipped}
-use Rattle.depmod_core.proofs.LineSteps.{line-text, tree-module}
+use Rattle.stated_texts.proofs.MapSteps.{value-found, placed, zipped}
+use Rattle.stated_texts.proofs.StatedSteps.{tree-module}
+use Rattle.depmod_core.proofs.LineSteps.{line-text}
 use Rattle.depmod_core.proofs.dependencies.dep_map.Goals as goal
 
 pub add-requires-clause-key : goal.add-requires-clause-key

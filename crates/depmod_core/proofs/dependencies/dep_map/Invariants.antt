@@ -1,7 +1,7 @@
 use Rattle.std.proofs.Common.{◌≡◌, map, take}
 use Rattle.std.specs.List.{zip, enumerate_from}
 use Rattle.provider_rel.specs.Seen.{closures_by}
-use Rattle.depmod_core.specs.Maps.{map_of}
+use Rattle.stated_texts.specs.Maps.{map_of}
 use Rattle.depmod_core.specs.Dependencies.{dep_value}
 use Rattle.depmod_core.proofs.dependencies.dep_map.Given as goal
 

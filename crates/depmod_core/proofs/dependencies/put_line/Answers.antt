@@ -2,9 +2,9 @@ use Rattle.std.proofs.Common.{◌≡◌, ◌-◌, ◌++◌, ◌∷◌, [], lengt
 use Rattle.std.proofs.Common.{ap, ◌∙◌, arith}
 use Rattle.std.proofs.lemmas.List.{drop_all, append-nil}
 use Rattle.km_names.specs.declared.conf.TreeIndex.{TreeIndex}
-use Rattle.depmod_core.specs.Text.{with_piece}
+use Rattle.stated_texts.specs.Text.{with_piece}
 use Rattle.depmod_core.specs.Dependencies.{path_at}
-use Rattle.depmod_core.proofs.TextSteps.{with-nothing, with_piece-append}
+use Rattle.stated_texts.proofs.TextSteps.{with-nothing, with_piece-append}
 use Rattle.depmod_core.proofs.LineSteps.{put-turned, line-pieces}
 use Rattle.depmod_core.proofs.dependencies.put_line.Goals as goal
 

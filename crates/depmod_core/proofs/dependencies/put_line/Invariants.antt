@@ -1,6 +1,6 @@
 use Rattle.std.proofs.Common.{◌≡◌, ◌∷◌, flat_map, reverse, drop}
 use Rattle.km_names.specs.declared.conf.TreeIndex.{TreeIndex}
-use Rattle.depmod_core.specs.Text.{with_piece}
+use Rattle.stated_texts.specs.Text.{with_piece}
 use Rattle.depmod_core.specs.Dependencies.{path_at}
 use Rattle.depmod_core.proofs.dependencies.put_line.Given as goal
 

@@ -1,9 +1,0 @@
-use Rattle.std.proofs.Common.{◌≡◌, take}
-use Rattle.depmod_core.specs.Maps.{with_values}
-use Rattle.depmod_core.specs.Kinds.{values_with}
-use Rattle.depmod_core.proofs.stated.add_values.Given as goal
-
-abbrev pub invariant-loop-stated : goal.invariant-loop-stated
-invariant-loop-stated l =
-    l.key_map
-    ≡ with_values l.initial.key_map (values_with l.place l.name (take l.stated-index l.all))

@@ -1,6 +1,0 @@
-use Rattle.std.proofs.Common.{take}
-use Rattle.depmod_core.specs.AllStated.{AreStated}
-use Rattle.depmod_core.proofs.stated.all_stated.Given as goal
-
-abbrev pub invariant-loop-facts : goal.invariant-loop-facts
-invariant-loop-facts l = AreStated l.kind (take l.facts-index l.tree) l.all.items

@@ -1,0 +1,3 @@
+pub mod TextSteps
+pub mod MapSteps
+pub mod StatedSteps
