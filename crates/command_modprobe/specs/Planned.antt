@@ -11,7 +11,7 @@ use Rattle.kmod_words.specs.declared.modprobe.ModprobeWords.{ModprobeWords}
 use Rattle.plan_builder.specs.declared.request.Request.{Request}
 use Rattle.plan_builder.specs.declared.step.PlanStep.{PlanStep}
 use Rattle.plan_builder.specs.declared.step.PlanStep.TheVariants.{Insert, Install, Builtin}
-use Rattle.planned_modules.specs.Needs.{Sources}
+use Rattle.plan_sources.specs.Sources.{Sources}
 use Rattle.plan_builder.specs.Sources.{sources}
 use Rattle.plan_builder.specs.Steps.{plan_steps}
 use Rattle.plan_builder.specs.Text.{first_obstacle_text}

@@ -12,7 +12,7 @@ use Rattle.kmod_words.specs.declared.modprobe.ModprobeWords.{ModprobeWords}
 use Rattle.kmod_words.specs.Modprobe.{modprobe_request}
 use Rattle.kernel_exports.specs.declared.kernel.Kernel.{Kernel}
 use Rattle.module_region.specs.declared.region.Region.{Region}
-use Rattle.planned_modules.specs.Needs.{Sources}
+use Rattle.plan_sources.specs.Sources.{Sources}
 use Rattle.plan_builder.specs.Steps.{plan_steps}
 use Rattle.plan_builder.specs.Text.{first_obstacle_text}
 use Rattle.stages_known.specs.declared.known.Known.{Known}

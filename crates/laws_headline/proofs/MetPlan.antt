@@ -26,7 +26,8 @@ use Rattle.planned_modules.specs.Members.{is_unknown, all_names}
 use Rattle.plan_builder.specs.Requested.{found_for}
 use Rattle.dependency_lines.specs.Modules.{line_places, bad_among, bad_name, by_number, first_value}
 use Rattle.dependency_lines.specs.Modules.{modules_of, name_at, path_at, place_of, places_of}
-use Rattle.planned_modules.specs.Needs.{Sources, after, before, modules, unloaded}
+use Rattle.plan_sources.specs.Sources.{Sources, modules}
+use Rattle.planned_modules.specs.Needs.{after, before, unloaded}
 use Rattle.plan_builder.specs.Obstacles.{PlanObstacle, bad_dep_line, cycle_obstacle, not_found}
 use Rattle.plan_builder.specs.Obstacles.{obstacle_of, plan_tests}
 use Rattle.plan_builder.specs.Sources.{sources}

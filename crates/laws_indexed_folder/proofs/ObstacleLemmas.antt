@@ -19,7 +19,7 @@ use Rattle.name_lookup.specs.declared.found.Found.{Found}
 use Rattle.plan_builder.specs.Requested.{found_for}
 use Rattle.dependency_lines.specs.Modules.{bad_name, first_values, is_line_of, module_at}
 use Rattle.dependency_lines.specs.Modules.{modules_of, name_at}
-use Rattle.planned_modules.specs.Needs.{Sources}
+use Rattle.plan_sources.specs.Sources.{Sources}
 use Rattle.planned_modules.specs.Members.{all_names, is_unfound, is_unknown}
 use Rattle.plan_builder.specs.Obstacles.{PlanObstacle, bad_dep_line, unbound_line, cycle_obstacle}
 use Rattle.plan_builder.specs.Obstacles.{not_found, obstacle_of, plan_tests}

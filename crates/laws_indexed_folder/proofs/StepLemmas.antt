@@ -20,7 +20,7 @@ use Rattle.name_table.specs.FirstSeen.{is_among}
 use Rattle.name_lookup.specs.Maps.{has_value}
 use Rattle.plan_builder.specs.declared.step.PlanStep.{PlanStep}
 use Rattle.plan_builder.specs.declared.step.PlanStep.TheVariants.{Insert, Install, Builtin}
-use Rattle.planned_modules.specs.Needs.{Sources}
+use Rattle.plan_sources.specs.Sources.{Sources}
 use Rattle.dependency_lines.specs.Modules.{needed_names}
 use Rattle.plan_builder.specs.Steps.{plan_steps}
 use Rattle.plan_builder.specs.Closed.{first_text, step_module, step_modules, is_at_one, is_there}

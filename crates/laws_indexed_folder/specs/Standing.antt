@@ -6,7 +6,7 @@ use Rattle.kernel_exports.specs.declared.kernel.Kernel.{Kernel}
 use Rattle.provider_rel.specs.Tree.{IsTree}
 use Rattle.depmod_core.specs.Files.{StandFor, files, output_fault}
 use Rattle.plan_builder.specs.declared.request.Request.{Request}
-use Rattle.planned_modules.specs.Needs.{Sources}
+use Rattle.plan_sources.specs.Sources.{Sources}
 use Rattle.plan_builder.specs.Obstacles.{bad_dep_line, obstacle_of}
 use Rattle.laws_indexed_folder.specs.Binding.{StandsAsIndexed}
 

@@ -26,7 +26,8 @@ use Rattle.plan_order.specs.declared.plan.PlanOrCycle.TheVariants as answers
 use Rattle.plan_builder.specs.declared.obstacle.Obstacle.{Obstacle}
 use Rattle.plan_builder.specs.declared.obstacle.Obstacle.TheVariants.{Cycle}
 use Rattle.dependency_lines.specs.Modules.{name_at}
-use Rattle.planned_modules.specs.Needs.{Sources, modules, unloaded}
+use Rattle.plan_sources.specs.Sources.{Sources, modules}
+use Rattle.planned_modules.specs.Needs.{unloaded}
 use Rattle.plan_builder.specs.Obstacles.{as_obstacle, cycle_obstacle}
 use Rattle.plan_builder.specs.Answers.{ShortCycle, IsCycleOf}
 

@@ -29,7 +29,8 @@ use Rattle.plan_builder.specs.declared.request.Request.{Request}
 use Rattle.plan_builder.specs.declared.step.PlanStep.{PlanStep}
 use Rattle.dependency_lines.specs.Modules.{bad_name, name_at, line_at, path_at, place_of, places_of}
 use Rattle.dependency_lines.specs.Modules.{needed_names, line_places}
-use Rattle.planned_modules.specs.Needs.{Sources, modules, before, after, unloaded}
+use Rattle.plan_sources.specs.Sources.{Sources, modules}
+use Rattle.planned_modules.specs.Needs.{before, after, unloaded}
 use Rattle.planned_modules.specs.Members.{asked, planned}
 use Rattle.plan_builder.specs.Requested.{found_for}
 use Rattle.plan_builder.specs.Steps.{plan_steps}
@@ -39,7 +40,7 @@ use Rattle.plan_builder.specs.Closed.{IsClosedPlan}
 use Rattle.plan_builder.proofs.Answering.{unloaded-low}
 use Rattle.plan_builder.proofs.ClearLines.{clear-lines, alone-lines}
 use Rattle.dependency_lines.proofs.Firsts.{has-modules}
-use Rattle.planned_modules.proofs.Inside.{has-append, position-low}
+use Rattle.plan_sources.proofs.Inside.{has-append, position-low}
 use Rattle.dependency_lines.proofs.Keys.{place-own, place-name}
 use Rattle.plan_builder.proofs.PlaceNames.{from-name, to-name, parted, distinct-names}
 use Rattle.plan_builder.proofs.StepModules.{order, plan-names, plan-paths}

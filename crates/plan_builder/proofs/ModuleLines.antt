@@ -18,15 +18,15 @@ use Rattle.plan_builder.specs.declared.step.PlanStep.{PlanStep}
 use Rattle.plan_builder.specs.declared.step.PlanStep.TheVariants.{Insert, Install, Builtin}
 use Rattle.dependency_lines.specs.Modules.{bad_name, first_values, is_line_of, module_at, name_at}
 use Rattle.dependency_lines.specs.Modules.{line_at, path_at, place_of, places_of, needed_names}
-use Rattle.planned_modules.specs.Needs.{Sources, modules}
+use Rattle.plan_sources.specs.Sources.{Sources, modules}
 use Rattle.plan_builder.specs.Obstacles.{is_path_of}
 use Rattle.plan_builder.specs.Closed.{first_text, step_module, is_at_one, IsOwnPath}
 use Rattle.plan_builder.proofs.ClearLines.{none-found}
 use Rattle.dependency_lines.proofs.Finds.{option-none}
 use Rattle.dependency_lines.proofs.Firsts.{has-modules}
-use Rattle.planned_modules.proofs.Inside.{has-append, position-low}
+use Rattle.plan_sources.proofs.Inside.{has-append, position-low}
 use Rattle.dependency_lines.proofs.Keys.{place-name, has-own, module-first, modules-each}
-use Rattle.planned_modules.proofs.Troubled.{or-false}
+use Rattle.plan_sources.proofs.Troubled.{or-false}
 
 each-passes : (p : KeyValue → Bool) (ms : List KeyValue) → find (λ m. not (p m)) ms ≡ None
     → AllByRecursion (λ m. p m ≡ true) ms

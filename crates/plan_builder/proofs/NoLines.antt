@@ -8,7 +8,8 @@ use Rattle.relation_order.specs.Cycle.{cycle}
 use Rattle.plan_order.specs.Lists.{among}
 use Rattle.unmet_file.specs.declared.kind.LineKind.TheVariants as kinds
 use Rattle.dependency_lines.specs.Modules.{name_at}
-use Rattle.planned_modules.specs.Needs.{Sources, modules, before}
+use Rattle.plan_sources.specs.Sources.{Sources, modules}
+use Rattle.planned_modules.specs.Needs.{before}
 use Rattle.planned_modules.specs.Members.{planned}
 use Rattle.plan_builder.specs.Obstacles.{PlanObstacle, is_path_of, stands, first_line}
 use Rattle.plan_builder.specs.Obstacles.{cycle_obstacle, plan_tests}

@@ -21,7 +21,8 @@ use Rattle.plan_builder.specs.declared.request.Request.{Request}
 use Rattle.plan_builder.specs.declared.obstacle.Obstacle.{Obstacle}
 use Rattle.plan_builder.specs.declared.obstacle.Obstacle.TheVariants.{Memory}
 use Rattle.plan_builder.specs.Answers.{line_obstacle, name_obstacle}
-use Rattle.planned_modules.specs.Needs.{Sources, modules, before, after, unloaded}
+use Rattle.plan_sources.specs.Sources.{Sources, modules}
+use Rattle.planned_modules.specs.Needs.{before, after, unloaded}
 use Rattle.planned_modules.specs.Members.{unfound, asked, is_unfound, is_unknown, all_names}
 use Rattle.plan_builder.specs.Requested.{found_for}
 use Rattle.plan_builder.specs.Steps.{module_step, later, plan_steps}

@@ -4,7 +4,7 @@ use Rattle.std.specs.List.{flat_map}
 use Rattle.modprobe_conf.specs.declared.rule.Rule.{Rule}
 use Rattle.modprobe_conf.specs.declared.rule.Rule.TheVariants.{Alias, Blacklist, Options, Install}
 use Rattle.modprobe_conf.specs.declared.rule.Rule.TheVariants.{Remove, Softdep}
-use Rattle.planned_modules.specs.Rules.{is_on, shown_rules}
+use Rattle.plan_sources.specs.Rules.{is_on, shown_rules}
 use Rattle.planned_modules.proofs.RuleLaws.{flat-filter, flat-shown}
 use Rattle.plan_builder.specs.Steps.{rule_options}
 

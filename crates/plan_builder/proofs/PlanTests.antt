@@ -9,7 +9,8 @@ use Rattle.unmet_file.specs.declared.kind.LineKind.{LineKind}
 use Rattle.unmet_file.specs.declared.kind.LineKind.TheVariants as kinds
 use Rattle.plan_builder.specs.declared.request.Request.{Request}
 use Rattle.dependency_lines.specs.Modules.{bad_name, name_at}
-use Rattle.planned_modules.specs.Needs.{Sources, modules, before}
+use Rattle.plan_sources.specs.Sources.{Sources, modules}
+use Rattle.planned_modules.specs.Needs.{before}
 use Rattle.planned_modules.specs.Members.{planned, is_unfound, is_unknown, all_names}
 use Rattle.plan_builder.specs.Requested.{found_for}
 use Rattle.plan_builder.specs.Obstacles.{bad_dep_line, unbound_line, not_found, is_path_of, stands}

@@ -2,7 +2,7 @@
 use Rattle.std.proofs.Common.{◌≡◌, None, refl}
 use Rattle.symbol_binding.specs.declared.unbound.Unbound.TheVariants as lines
 use Rattle.plan_builder.specs.declared.request.Request.{Request}
-use Rattle.planned_modules.specs.Needs.{Sources}
+use Rattle.plan_sources.specs.Sources.{Sources}
 use Rattle.plan_builder.specs.Obstacles.{PlanObstacle, bad_dep_line, name_not_found, unbound_line}
 use Rattle.plan_builder.specs.Obstacles.{plan_cycle, as_obstacle, obstacle_of}
 use Rattle.plan_builder.specs.Text.{first_obstacle_text, obstacle_text, plan_text}

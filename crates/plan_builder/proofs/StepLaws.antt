@@ -18,7 +18,8 @@ use Rattle.name_table.specs.FirstSeen.{is_among}
 use Rattle.name_lookup.specs.declared.found.Found.{Found}
 use Rattle.plan_builder.specs.declared.request.Request.{Request}
 use Rattle.plan_builder.specs.declared.step.PlanStep.{PlanStep}
-use Rattle.planned_modules.specs.Needs.{Sources, modules, before, unloaded}
+use Rattle.plan_sources.specs.Sources.{Sources, modules}
+use Rattle.planned_modules.specs.Needs.{before, unloaded}
 use Rattle.plan_builder.specs.Steps.{own_step, own_steps, module_step}
 use Rattle.plan_builder.specs.Ends.{steps_by, RisingEnds}
 use Rattle.plan_builder.proofs.StepPlaces.{steps_from}

@@ -18,14 +18,15 @@ use Rattle.plan_order.proofs.Complete.{groups-more}
 use Rattle.name_table.specs.FirstSeen.{is_among}
 use Rattle.plan_builder.specs.declared.request.Request.{Request}
 use Rattle.dependency_lines.specs.Modules.{name_at, path_at, place_of, places_of}
-use Rattle.planned_modules.specs.Needs.{Sources, modules, before, after, unloaded}
+use Rattle.plan_sources.specs.Sources.{Sources, modules}
+use Rattle.planned_modules.specs.Needs.{before, after, unloaded}
 use Rattle.planned_modules.specs.Members.{asked, chosen_command, kind_unless}
 use Rattle.plan_builder.specs.Requested.{found_for, is_member}
 use Rattle.plan_builder.specs.Steps.{step_unless, module_step, options_of, step_of_kind, own_step}
 use Rattle.plan_builder.specs.Steps.{own_step_unless, own_steps, later, plan_steps}
 use Rattle.plan_builder.specs.Closed.{step_module, step_modules, IsOwnPath, IsAtOwnPath}
 use Rattle.dependency_lines.proofs.Firsts.{has-modules}
-use Rattle.planned_modules.proofs.Inside.{has-append}
+use Rattle.plan_sources.proofs.Inside.{has-append}
 use Rattle.dependency_lines.proofs.Keys.{has-own}
 use Rattle.plan_builder.proofs.StepLaws.{plan-front}
 use Rattle.plan_builder.proofs.StepPlaces.{steps_from, plan-placed}

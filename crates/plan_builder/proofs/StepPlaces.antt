@@ -14,7 +14,8 @@ use Rattle.plan_order.specs.Lists.{among}
 use Rattle.dependency_lines.specs.Modules.{places_of}
 use Rattle.plan_builder.specs.declared.request.Request.{Request}
 use Rattle.plan_builder.specs.declared.step.PlanStep.{PlanStep}
-use Rattle.planned_modules.specs.Needs.{Sources, modules, before, unloaded}
+use Rattle.plan_sources.specs.Sources.{Sources, modules}
+use Rattle.planned_modules.specs.Needs.{before, unloaded}
 use Rattle.planned_modules.specs.Members.{asked, all_names}
 use Rattle.plan_builder.specs.Requested.{found_for}
 use Rattle.plan_builder.specs.Steps.{own_steps, module_step, done_after, steps_of, steps_at}

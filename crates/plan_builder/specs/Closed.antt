@@ -14,7 +14,7 @@ use Rattle.name_lookup.specs.Maps.{has_value}
 use Rattle.plan_builder.specs.declared.step.PlanStep.{PlanStep}
 use Rattle.plan_builder.specs.declared.step.PlanStep.TheVariants.{Insert, Install, Builtin}
 use Rattle.dependency_lines.specs.Modules.{needed_names}
-use Rattle.planned_modules.specs.Needs.{Sources}
+use Rattle.plan_sources.specs.Sources.{Sources}
 
 -- The first text under a name: the dependency line of the module of this name.
 abbrev pub first_text : KeyValues → List ℕ → List ℕ

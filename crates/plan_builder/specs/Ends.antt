@@ -5,7 +5,7 @@ use Rattle.std.specs.Prelude.{slice_index}
 use Rattle.name_lookup.specs.declared.found.Found.{Found}
 use Rattle.plan_builder.specs.declared.request.Request.{Request}
 use Rattle.plan_builder.specs.declared.step.PlanStep.{PlanStep}
-use Rattle.planned_modules.specs.Needs.{Sources}
+use Rattle.plan_sources.specs.Sources.{Sources}
 use Rattle.plan_builder.specs.Steps.{own_steps, module_step}
 
 -- No group ends before the one before it, or past the order.

@@ -19,7 +19,8 @@ use Rattle.plan_builder.specs.declared.request.Request.{Request}
 use Rattle.plan_builder.specs.declared.obstacle.Obstacle.{Obstacle}
 use Rattle.plan_builder.specs.declared.obstacle.Obstacle.TheVariants as obstacles
 use Rattle.dependency_lines.specs.Modules.{bad_name, name_at, path_at, places_of}
-use Rattle.planned_modules.specs.Needs.{Sources, modules, before}
+use Rattle.plan_sources.specs.Sources.{Sources, modules}
+use Rattle.planned_modules.specs.Needs.{before}
 use Rattle.planned_modules.specs.Members.{planned, is_unfound, is_unknown, all_names}
 use Rattle.plan_builder.specs.Requested.{found_for}
 

@@ -3,7 +3,7 @@ use Rattle.std.specs.Prelude.{ℕ, Bool, List}
 use Rattle.std.specs.List.{list_any}
 use Rattle.name_table.specs.FirstSeen.{is_among}
 use Rattle.name_lookup.specs.declared.found.Found.{Found}
-use Rattle.planned_modules.specs.Needs.{Sources}
+use Rattle.plan_sources.specs.Sources.{Sources}
 use Rattle.planned_modules.specs.Members.{founds_of}
 use Rattle.plan_builder.specs.declared.request.Request.{Request}
 

@@ -5,7 +5,7 @@ use Rattle.symbol_binding.specs.declared.unbound.Unbound.{Unbound}
 use Rattle.name_lookup.specs.declared.indexes.Indexes.{Indexes}
 use Rattle.name_lookup.specs.Maps.{maps_of}
 use Rattle.plan_builder.specs.declared.request.Request.{Request}
-use Rattle.planned_modules.specs.Needs.{Sources}
+use Rattle.plan_sources.specs.Sources.{Sources}
 
 -- The sources that a request uses.
 abbrev pub sources : List Rule → Indexes → List Unbound → List (List ℕ) → Request → Sources

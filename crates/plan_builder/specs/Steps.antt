@@ -15,7 +15,8 @@ use Rattle.plan_builder.specs.declared.request.Request.{Request}
 use Rattle.plan_builder.specs.declared.step.PlanStep.{PlanStep}
 use Rattle.plan_builder.specs.declared.step.PlanStep.TheVariants.{Insert, Install, Builtin}
 use Rattle.dependency_lines.specs.Modules.{name_at, path_at, places_of}
-use Rattle.planned_modules.specs.Needs.{Sources, modules, before, after, unloaded}
+use Rattle.plan_sources.specs.Sources.{Sources, modules}
+use Rattle.planned_modules.specs.Needs.{before, after, unloaded}
 use Rattle.planned_modules.specs.Members.{asked, ResolvedKind, loadable, installed, inside, unknown}
 use Rattle.planned_modules.specs.Members.{kind_of, chosen_command, all_names}
 use Rattle.plan_builder.specs.Requested.{found_for, is_member}

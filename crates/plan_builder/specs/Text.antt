@@ -7,7 +7,7 @@ use Rattle.unmet_file.specs.Line.{line_text}
 use Rattle.plan_builder.specs.declared.obstacle.Obstacle.{Obstacle}
 use Rattle.plan_builder.specs.declared.obstacle.Obstacle.TheVariants as obstacles
 use Rattle.plan_builder.specs.declared.request.Request.{Request}
-use Rattle.planned_modules.specs.Needs.{Sources}
+use Rattle.plan_sources.specs.Sources.{Sources}
 use Rattle.plan_builder.specs.Obstacles.{PlanObstacle, bad_dep_line, name_not_found, unbound_line}
 use Rattle.plan_builder.specs.Obstacles.{plan_cycle, obstacle_of}
 

@@ -7,9 +7,9 @@ ghost use Rattle.name_table.specs.FirstSeen.{is_among};
 ghost use Rattle.relation_order.specs.Sets.{marked};
 ghost use Rattle.plan_builder.specs.Obstacles.{is_path_of, is_obstacle, as_obstacle, first_line};
 ghost use Rattle.plan_builder.specs.Obstacles.{stands, unbound_line};
-ghost use Rattle.planned_modules.specs.Needs.{modules as modules_spec};
+ghost use Rattle.plan_sources.specs.Sources.{modules as modules_spec};
 ghost use Rattle.plan_builder.specs.Answers.{need_tests};
-ghost use Rattle.planned_modules.specs.Planner.{sources_of};
+ghost use Rattle.plan_sources.specs.Planner.{sources_of};
 
 use crate::obstacle::Obstacle;
 use dependency_lines::Modules;

@@ -7,7 +7,8 @@ ghost use Rattle.plan_order.specs.Lists.{among};
 ghost use Rattle.plan_order.specs.Answer.{IsPlan, IsAnswer};
 ghost use Rattle.name_lookup.specs.Maps.{maps_of};
 ghost use Rattle.dependency_lines.specs.Modules.{name_at, bad_name, modules_of};
-ghost use Rattle.planned_modules.specs.Needs.{modules as modules_spec, before, after, unloaded};
+ghost use Rattle.plan_sources.specs.Sources.{modules as modules_spec};
+ghost use Rattle.planned_modules.specs.Needs.{before, after, unloaded};
 ghost use Rattle.planned_modules.specs.Members.{asked, planned as planned_spec};
 ghost use Rattle.plan_builder.specs.Steps.{plan_steps};
 ghost use Rattle.plan_builder.specs.Closed.{IsClosedPlan};
@@ -15,7 +16,7 @@ ghost use Rattle.plan_builder.specs.Obstacles.{as_obstacle, is_path_of, stands, 
 ghost use Rattle.plan_builder.specs.Obstacles.{obstacle_of};
 ghost use Rattle.plan_builder.specs.Answers.{ShortCycle, IsCycleOf};
 ghost use Rattle.plan_builder.specs.Sources.{sources};
-ghost use Rattle.planned_modules.specs.Planner.{sources_of};
+ghost use Rattle.plan_sources.specs.Planner.{sources_of};
 
 use crate::check::{ComparedPaths, check_needs, check_unmet, compared_paths};
 use crate::obstacle::Obstacle;

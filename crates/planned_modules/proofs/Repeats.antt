@@ -25,8 +25,10 @@ use Rattle.plan_order.proofs.Complete.{planned-post, after-within}
 use Rattle.plan_order.proofs.PlanKeeps.{has-append, undone-is}
 use Rattle.plan_order.proofs.QueueLaws.{queue-plans}
 use Rattle.dependency_lines.specs.Modules.{name_at, line_places}
-use Rattle.planned_modules.specs.Needs.{Sources, modules, soft_places, before, names_before}
-use Rattle.planned_modules.specs.Softdeps.{once, before_once}
+use Rattle.plan_sources.specs.Sources.{Sources, modules, soft_places}
+use Rattle.planned_modules.specs.Needs.{before, names_before}
+use Rattle.plan_sources.specs.Softdeps.{once}
+use Rattle.planned_modules.specs.Kept.{before_once}
 
 pub has-once : (xs : List ℕ) (y : ℕ) → has (once xs) y ≡ has xs y
 has-once xs y = has-items [] xs y

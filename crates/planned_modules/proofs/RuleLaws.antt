@@ -1,31 +1,16 @@
--- Rules in groups, a rule more at a time; and what the rules on a module give, all rules give.
-use Rattle.std.proofs.Common.{◌≡◌, ℕ, ◌+◌, ◌<◌, Bool, true, false, cond, Bor, List, [], ◌∷◌, ◌++◌}
-use Rattle.std.proofs.Common.{length, take, map, filter, get_or, Option, Some, None, refl, sym, ap}
-use Rattle.std.proofs.Common.{◌∙◌, append-nil}
+-- What the rules on a module give for it, all rules give.
+use Rattle.std.proofs.Common.{◌≡◌, ℕ, Bool, true, false, cond, Bor, List, [], ◌∷◌, ◌++◌, map}
+use Rattle.std.proofs.Common.{filter, Option, Some, None, refl, sym, ap, ◌∙◌}
 use Rattle.std.specs.List.{flat_map}
-use Rattle.std.specs.Option.{option_map_or}
-use Rattle.std.specs.Str.{bytes_eq}
-use Rattle.std.proofs.lemmas.List.{map-append, take_more}
-use Rattle.std.proofs.lemmas.List.Elements.{filter-append}
 use Rattle.km_names.specs.First.{first}
 use Rattle.modprobe_conf.specs.declared.rule.Rule.{Rule}
 use Rattle.modprobe_conf.specs.declared.rule.Rule.TheVariants.{Alias, Blacklist, Options, Install}
 use Rattle.modprobe_conf.specs.declared.rule.Rule.TheVariants.{Remove, Softdep}
-use Rattle.name_lookup.specs.Groups.{group_of}
 use Rattle.planned_modules.specs.declared.needs.Side.{Side}
 use Rattle.planned_modules.specs.declared.needs.Side.TheVariants.{Before, After}
 use Rattle.planned_modules.specs.Members.{command_of, install_command}
-use Rattle.planned_modules.specs.Kept.{names_on, IsGrouped}
-use Rattle.planned_modules.specs.Rules.{owner, is_on, shown_rules}
-
--- ---- what passes a test, an item more at a time
-
-filter-more : {X : Type 0} (p : X → Bool) (xs : List X) (i : ℕ) (x : X) → i < length xs
-    → x ≡ get_or xs i x
-    → filter p (take (i + 1) xs) ≡ filter p (take i xs) ++ cond (p x) (x ∷ []) []
-filter-more p xs i x l is =
-    ap (filter p) (take_more xs i x l) ∙ filter-append p (take i xs) (get_or xs i x ∷ [])
-    ∙ ap (λ y. filter p (take i xs) ++ cond (p y) (y ∷ []) []) (sym is)
+use Rattle.planned_modules.specs.Kept.{names_on}
+use Rattle.plan_sources.specs.Rules.{is_on, shown_rules}
 
 -- ---- where items that don't pass give nothing, those that pass give all
 
@@ -118,40 +103,3 @@ module _ (name : List ℕ) (rules : List Rule) (own : List (Bor Rule))
   command-of-own
       = ap first (map-shown (command_of name) own) ∙ ap (λ rs. install_command rs name) is
       ∙ command-on name rules
-
--- ---- groups with a rule more
-
-shown-more : (own : List (Bor Rule)) (r : Bor Rule) (b : Bool)
-    → shown_rules (own ++ cond b (r ∷ []) []) ≡ shown_rules own ++ cond b (r.now ∷ []) []
-shown-more own r true = map-append (λ (r : Bor Rule). r.now) own (r ∷ [])
-shown-more own r false = map-append (λ (r : Bor Rule). r.now) own []
-
-module _ (old : List (List ℕ × List (Bor Rule))) (rules : List Rule) (i : ℕ) (rule : Rule)
-    (is : IsGrouped old (take i rules)) (l : i < length rules) (at : rule ≡ get_or rules i rule)
-  where
-    next : (name : List ℕ)
-        → filter (is_on name) (take (i + 1) rules)
-        ≡ filter (is_on name) (take i rules) ++ cond (is_on name rule) (rule ∷ []) []
-    next name = filter-more (is_on name) rules i rule l at
-
-    -- a rule that is on a module
-    pub grouped-more : (new : List (List ℕ × List (Bor Rule))) (own : List ℕ) (r : Bor Rule)
-        → r.now ≡ rule → Some own ≡ owner rule
-        → ((name : List ℕ)
-        → group_of new name ≡ group_of old name ++ cond (bytes_eq own name) (r ∷ []) [])
-        → IsGrouped new (take (i + 1) rules)
-    grouped-more new own r same owned now name =
-        ap shown_rules (now name)
-        ∙ shown-more (group_of old name) r (bytes_eq own name)
-        ∙ (λ j. is name j
-        ++ cond (option_map_or (λ o. bytes_eq o name) (owned j) false) (same j ∷ []) [])
-        ∙ sym (next name)
-
-    -- a rule that is on none
-    pub grouped-same : None ≡ owner rule → IsGrouped old (take (i + 1) rules)
-    grouped-same owned name =
-        is name
-        ∙ sym (append-nil (filter (is_on name) (take i rules)))
-        ∙ ap (λ o. filter (is_on name) (take i rules)
-        ++ cond (option_map_or (λ o. bytes_eq o name) o false) (rule ∷ []) []) owned
-        ∙ sym (next name)

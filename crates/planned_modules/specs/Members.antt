@@ -15,7 +15,8 @@ use Rattle.plan_order.specs.Lists.{among}
 use Rattle.dependency_lines.specs.Modules.{place_of, places_of}
 use Rattle.planned_modules.specs.declared.fault.ResolveFault.{ResolveFault}
 use Rattle.planned_modules.specs.declared.fault.ResolveFault.TheVariants.{NotFound}
-use Rattle.planned_modules.specs.Needs.{Sources, modules, before, after, unloaded}
+use Rattle.plan_sources.specs.Sources.{Sources, modules}
+use Rattle.planned_modules.specs.Needs.{before, after, unloaded}
 
 -- What is found for each of some names.
 abbrev pub founds_of : Sources → List (List ℕ) → List Found

@@ -7,22 +7,22 @@ ghost use Rattle.relation_order.specs.Search.{Inside};
 ghost use Rattle.plan_order.specs.Lists.{items_of};
 ghost use Rattle.name_table.specs.FirstSeen.{is_among};
 ghost use Rattle.dependency_lines.specs.Modules.{places_of, name_at};
-ghost use Rattle.planned_modules.specs.Needs.{modules as modules_spec, unloaded};
-ghost use Rattle.planned_modules.specs.Planner.{sources_of};
-ghost use Rattle.planned_modules.specs.Kept.{texts};
+ghost use Rattle.plan_sources.specs.Sources.{modules as modules_spec};
+ghost use Rattle.planned_modules.specs.Needs.{unloaded};
+ghost use Rattle.plan_sources.specs.Planner.{sources_of};
+ghost use Rattle.plan_sources.specs.Kept.{texts};
 ghost use Rattle.planned_modules.specs.Members.{founds_of, chosen_command, install_command};
 ghost use Rattle.planned_modules.specs.Members.{command_of, unfound, is_unfound, is_unknown};
 ghost use Rattle.planned_modules.specs.Members.{all_names};
 
 use crate::fault::ResolveFault;
 use crate::needs::push_all;
-use crate::planner::Planner;
-use crate::rule_table::RuleTable;
 use dependency_lines::Modules;
 use km_names::{Name, Names, normal_or_itself};
 use modprobe_conf::Rule;
 use name_lookup::Found;
 use name_table::NameSet;
+use plan_sources::{Planner, RuleTable};
 use std::alloc::{AllocError, Global};
 
 /// Finds what each name stands for, or the first name for which nothing is found.

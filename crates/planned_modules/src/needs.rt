@@ -2,17 +2,16 @@
 ghost use Rattle.std.specs.Prelude.{◌≡◌, ◌<◌, ◌++◌, length, IfOk, OnOk};
 ghost use Rattle.std.specs.List.{flat_map};
 ghost use Rattle.dependency_lines.specs.Modules.{name_at};
-ghost use Rattle.planned_modules.specs.Needs.{modules as modules_spec, soft_places};
-ghost use Rattle.planned_modules.specs.Planner.{sources_of};
-ghost use Rattle.planned_modules.specs.Kept.{names_on, names_of_side, texts};
-ghost use Rattle.planned_modules.specs.Softdeps.{once};
+ghost use Rattle.plan_sources.specs.Sources.{modules as modules_spec, soft_places};
+ghost use Rattle.plan_sources.specs.Planner.{sources_of};
+ghost use Rattle.plan_sources.specs.Kept.{texts};
+ghost use Rattle.plan_sources.specs.Softdeps.{once};
+ghost use Rattle.planned_modules.specs.Kept.{names_on, names_of_side};
 
-use crate::planner::Planner;
-use crate::rule_table::RuleTable;
-use crate::softdeps::{SoftTable, find_named, soft_table};
 use km_names::{Name, Names};
 use modprobe_conf::Rule;
 use plan_order::{Needed, Needs};
+use plan_sources::{RuleTable, SoftTable};
 use std::alloc::{AllocError, Global};
 use std::marker::Model;
 
@@ -33,36 +32,27 @@ pub(crate) fn push_all<'a>(names: &mut Vec<&'a Name>, more: &'a Names) -> Result
     Ok(())
 }
 
-/// What each module needs, with what the names of soft dependencies stand for. Contracts see what
-/// the planner is made from.
+/// What each module needs, over what the names of soft dependencies stand for. Contracts see what
+/// plans are made from.
 #[derive(Drop)]
-pub(crate) struct ModuleNeeds<'p, 'a> {
-    planner: &'p Planner<'a>,
-    soft: SoftTable<'a>,
+pub(crate) struct ModuleNeeds<'t, 'p, 'a> {
+    soft: &'t SoftTable<'p, 'a>,
 }
 
-impl<'p, 'a> Model for ModuleNeeds<'p, 'a> {
-    ghost use Rattle.planned_modules.specs.Planner.{Held, sources_of};
-    ghost use Rattle.planned_modules.specs.Softdeps.{IsSoftTable, all_soft_names};
+impl<'t, 'p, 'a> Model for ModuleNeeds<'t, 'p, 'a> {
+    ghost use Rattle.plan_sources.specs.Planner.{Held};
 
     ghost Value = { Held };
 
-    ghost view = { λ n. n.planner.now };
-
-    ghost invariant = { λ n. IsSoftTable (sources_of n.planner.now)
-        (all_soft_names n.planner.now.rules) n.soft.entries };
+    ghost view = { λ n. n.soft.now };
 }
 
-impl<'p, 'a> ModuleNeeds<'p, 'a> {
-    /// Makes the needs of a planner's modules.
-    pub(crate) fn new(
-        alloc: Global,
-        planner: &'p Planner<'a>,
-    ) -> Result<ModuleNeeds<'p, 'a>, AllocError>
-        ensures { IfOk result (λ needs. needs ≡ planner.now) }
+impl<'t, 'p, 'a> ModuleNeeds<'t, 'p, 'a> {
+    /// Makes the needs of modules.
+    pub(crate) fn new(soft: &'t SoftTable<'p, 'a>) -> ModuleNeeds<'t, 'p, 'a>
+        ensures { result ≡ soft.now }
     {
-        let soft = soft_table(alloc, planner)?;
-        Ok(ModuleNeeds { planner, soft })
+        ModuleNeeds { soft }
     }
 
     /// Returns the modules that soft dependencies name on one side of a module, each once.
@@ -74,17 +64,18 @@ impl<'p, 'a> ModuleNeeds<'p, 'a> {
             (flat_map (names_on side (name_at (modules_spec (sources_of self.now)) place))
             (sources_of self.now).rules))) }
     {
-        let modules = self.planner.modules();
-        let names = soft_names(alloc, self.planner.rules(), modules.name(place), side)?;
-        find_named(alloc, &self.soft, place, &names)
+        let planner = self.soft.planner();
+        let name = planner.modules().name(place);
+        let names = soft_names(alloc, planner.rules(), name, side)?;
+        self.soft.places(alloc, place, &names)
     }
 }
 
-impl<'p, 'a> Needs for ModuleNeeds<'p, 'a> {
+impl<'t, 'p, 'a> Needs for ModuleNeeds<'t, 'p, 'a> {
     ghost use Rattle.std.specs.Prelude.{length};
-    ghost use Rattle.planned_modules.specs.Needs.{modules};
-    ghost use Rattle.planned_modules.specs.Softdeps.{before_once, after_once};
-    ghost use Rattle.planned_modules.specs.Planner.{sources_of};
+    ghost use Rattle.plan_sources.specs.Sources.{modules};
+    ghost use Rattle.planned_modules.specs.Kept.{before_once, after_once};
+    ghost use Rattle.plan_sources.specs.Planner.{sources_of};
 
     ghost count = { λ needs. length (modules (sources_of needs)) };
 
@@ -93,7 +84,7 @@ impl<'p, 'a> Needs for ModuleNeeds<'p, 'a> {
     ghost after = { λ needs. after_once (sources_of needs) };
 
     fn needed(&self, alloc: Global, place: usize) -> Result<Needed, AllocError> {
-        let mut before = self.planner.line_places(alloc, place)?;
+        let mut before = self.soft.planner().line_places(alloc, place)?;
         let soft = self.soft_places(alloc, place, Side::Before)?;
         before.extend_from_slice(&soft)?;
         let after = self.soft_places(alloc, place, Side::After)?;

@@ -5,16 +5,17 @@ ghost use Rattle.relation_order.specs.Search.{Inside};
 ghost use Rattle.plan_order.specs.Plan.{planned as planned_for};
 ghost use Rattle.plan_order.specs.Lists.{among, items_of, IsPlanned};
 ghost use Rattle.plan_order.specs.Answer.{IsAnswer};
-ghost use Rattle.planned_modules.specs.Needs.{modules as modules_spec, before, after, unloaded};
+ghost use Rattle.plan_sources.specs.Sources.{modules as modules_spec};
+ghost use Rattle.planned_modules.specs.Needs.{before, after, unloaded};
 ghost use Rattle.planned_modules.specs.Members.{asked, planned as planned_spec};
-ghost use Rattle.planned_modules.specs.Planner.{sources_of};
-ghost use Rattle.planned_modules.specs.Softdeps.{before_once, after_once};
+ghost use Rattle.plan_sources.specs.Planner.{sources_of};
+ghost use Rattle.planned_modules.specs.Kept.{before_once, after_once};
 
 use crate::members::{free_marks, requests_of};
 use crate::needs::ModuleNeeds;
-use crate::planner::Planner;
 use name_lookup::Found;
 use plan_order::{PlanOrCycle, Planned, find_planned, plan_or_cycle};
+use plan_sources::{Planner, SoftTable};
 use std::alloc::{AllocError, Global};
 
 /// What is planned, with a mark for each module, and the order of it, or a cycle.
@@ -84,6 +85,7 @@ fn planned_and_needed(
         (IsPlanned (length free.now) (before_once (sources_of planner.now)) (marked free.now)
         (after_once (sources_of planner.now)) (items_of requests.now)) }
 {
-    let needs = ModuleNeeds::new(alloc, planner)?;
+    let soft = SoftTable::new(alloc, planner)?;
+    let needs = ModuleNeeds::new(&soft);
     find_planned(alloc, &needs, free, requests)
 }

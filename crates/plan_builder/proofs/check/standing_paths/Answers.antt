@@ -1,7 +1,7 @@
 use Rattle.std.proofs.Common.{◌<◌, length, sym, ap, ◌∙◌, subst}
 use Rattle.std.specs.Prelude.{All}
 use Rattle.dependency_lines.specs.Modules.{places_of}
-use Rattle.planned_modules.proofs.Inside.{places-inside}
+use Rattle.plan_sources.proofs.Inside.{places-inside}
 use Rattle.plan_builder.proofs.check.standing_paths.Goals as goal
 
 pub paths_of-requires : goal.paths_of-requires

@@ -9,12 +9,13 @@ use Rattle.plan_order.specs.Lists.{among}
 use Rattle.unmet_file.specs.declared.kind.LineKind.TheVariants as kinds
 use Rattle.dependency_lines.specs.Modules.{name_at}
 use Rattle.dependency_lines.proofs.Faults.{right}
-use Rattle.planned_modules.specs.Needs.{modules, before, after, unloaded}
+use Rattle.plan_sources.specs.Sources.{modules}
+use Rattle.planned_modules.specs.Needs.{before, after, unloaded}
 use Rattle.planned_modules.specs.Members.{asked, planned}
 use Rattle.plan_builder.specs.Obstacles.{as_obstacle, is_path_of, stands, line_of, first_line}
 use Rattle.plan_builder.specs.Obstacles.{cycle_obstacle}
 use Rattle.plan_builder.specs.Answers.{need_tests}
-use Rattle.planned_modules.specs.Planner.{sources_of}
+use Rattle.plan_sources.specs.Planner.{sources_of}
 use Rattle.plan_builder.proofs.Answering.{first-here, first-none, first-some, cycle-answer}
 use Rattle.plan_builder.proofs.Answering.{plan-answer, short-answer, unloaded-low}
 use Rattle.plan_builder.proofs.planning.checked_order.Goals as goal

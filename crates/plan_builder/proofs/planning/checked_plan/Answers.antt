@@ -1,8 +1,8 @@
 use Rattle.std.proofs.Common.{ap, ◌∙◌}
 use Rattle.relation_order.specs.Sets.{marked}
-use Rattle.planned_modules.specs.Needs.{modules}
+use Rattle.plan_sources.specs.Sources.{modules}
 use Rattle.plan_builder.specs.Obstacles.{is_path_of}
-use Rattle.planned_modules.specs.Planner.{sources_of}
+use Rattle.plan_sources.specs.Planner.{sources_of}
 use Rattle.plan_builder.proofs.planning.checked_plan.Goals as goal
 
 pub checked_order-requires-clause-planned : goal.checked_order-requires-clause-planned

@@ -3,10 +3,11 @@ use Rattle.std.specs.Option.{option_map}
 use Rattle.std.proofs.lemmas.Result.{err_from_is_err_and}
 use Rattle.plan_order.specs.Lists.{among}
 use Rattle.dependency_lines.proofs.Faults.{right}
-use Rattle.planned_modules.specs.Needs.{modules, before, after, unloaded}
+use Rattle.plan_sources.specs.Sources.{modules}
+use Rattle.planned_modules.specs.Needs.{before, after, unloaded}
 use Rattle.planned_modules.specs.Members.{asked}
 use Rattle.plan_builder.specs.Obstacles.{as_obstacle}
-use Rattle.planned_modules.specs.Planner.{sources_of}
+use Rattle.plan_sources.specs.Planner.{sources_of}
 use Rattle.plan_builder.proofs.Answering.{cycle-answer, plan-answer, short-answer, unloaded-low}
 use Rattle.plan_builder.proofs.NoLines.{no-lines}
 use Rattle.plan_builder.proofs.planning.order_without_lines.Goals as goal

@@ -4,7 +4,7 @@ use Rattle.dependency_lines.specs.Modules.{bad_name}
 use Rattle.plan_builder.specs.declared.obstacle.Obstacle.TheVariants.{Memory}
 use Rattle.plan_builder.specs.Steps.{plan_steps}
 use Rattle.plan_builder.specs.Obstacles.{as_obstacle, obstacle_of}
-use Rattle.planned_modules.specs.Planner.{sources_of}
+use Rattle.plan_sources.specs.Planner.{sources_of}
 use Rattle.plan_builder.specs.Sources.{sources}
 use Rattle.plan_builder.specs.Closed.{IsClosedPlan}
 use Rattle.plan_builder.proofs.planning.planned_over.Goals as goal

@@ -9,11 +9,12 @@ use Rattle.plan_order.specs.Plan.{needs, requested}
 use Rattle.plan_order.specs.Lists.{among}
 use Rattle.plan_order.specs.Answer.{IsPlan}
 use Rattle.dependency_lines.proofs.Faults.{right}
-use Rattle.planned_modules.specs.Needs.{modules, before, after, unloaded}
+use Rattle.plan_sources.specs.Sources.{modules}
+use Rattle.planned_modules.specs.Needs.{before, after, unloaded}
 use Rattle.planned_modules.specs.Members.{is_unfound, asked, is_unknown, all_names}
 use Rattle.plan_builder.specs.Requested.{found_for}
 use Rattle.plan_builder.specs.Obstacles.{as_obstacle, not_found, plan_tests}
-use Rattle.planned_modules.specs.Planner.{sources_of}
+use Rattle.plan_sources.specs.Planner.{sources_of}
 use Rattle.plan_builder.specs.Answers.{name_obstacle}
 use Rattle.plan_builder.proofs.Answering.{unloaded-low}
 use Rattle.plan_builder.proofs.Obstacles.{name-fault, when-unfound, when-unknown, when-known}

@@ -2,8 +2,8 @@ use Rattle.std.proofs.Common.{Some, ap, sym, ◌∙◌, inr}
 use Rattle.std.specs.List.{find}
 use Rattle.std.specs.Option.{option_map}
 use Rattle.planned_modules.specs.Members.{unfound, is_unknown}
-use Rattle.planned_modules.specs.Planner.{sources_of}
-use Rattle.planned_modules.specs.Kept.{texts}
+use Rattle.plan_sources.specs.Planner.{sources_of}
+use Rattle.plan_sources.specs.Kept.{texts}
 use Rattle.dependency_lines.proofs.Finds.{find-here, find-more}
 use Rattle.planned_modules.proofs.members.check_known.Goals as goal
 

@@ -6,7 +6,7 @@ use Rattle.std.specs.Option.{option_map}
 use Rattle.std.proofs.lemmas.Bool.{eq-eqb, eqb-true, false_from_ne_true}
 use Rattle.name_lookup.specs.Found.{found}
 use Rattle.planned_modules.specs.Members.{unfound, founds_of, is_unfound}
-use Rattle.planned_modules.specs.Planner.{sources_of}
+use Rattle.plan_sources.specs.Planner.{sources_of}
 use Rattle.dependency_lines.proofs.Finds.{plain-here, plain-more}
 use Rattle.planned_modules.proofs.Finds.{map-more}
 use Rattle.planned_modules.proofs.members.find_each.Goals as goal

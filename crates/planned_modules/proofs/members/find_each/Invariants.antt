@@ -1,7 +1,7 @@
 use Rattle.std.proofs.Common.{◌≡◌, take, None}
 use Rattle.std.specs.List.{find}
 use Rattle.planned_modules.specs.Members.{founds_of, is_unfound}
-use Rattle.planned_modules.specs.Planner.{sources_of}
+use Rattle.plan_sources.specs.Planner.{sources_of}
 use Rattle.planned_modules.proofs.members.find_each.Given as goal
 
 abbrev pub invariant-loop-name : goal.invariant-loop-name

@@ -4,8 +4,8 @@ use Rattle.name_table.specs.FirstSeen.{is_among}
 use Rattle.relation_order.specs.Sets.{below}
 use Rattle.relation_order.proofs.Saturation.{filter-same}
 use Rattle.dependency_lines.specs.Modules.{name_at}
-use Rattle.planned_modules.specs.Needs.{modules}
-use Rattle.planned_modules.specs.Planner.{sources_of}
+use Rattle.plan_sources.specs.Sources.{modules}
+use Rattle.plan_sources.specs.Planner.{sources_of}
 use Rattle.planned_modules.proofs.Marks.{then-ok, marked-map, length-marks}
 use Rattle.planned_modules.proofs.members.free_marks.Goals as goal
 

@@ -1,9 +1,9 @@
 use Rattle.std.proofs.Common.{◌<◌, length, sym, ◌∙◌, subst}
 use Rattle.std.specs.Prelude.{All}
 use Rattle.dependency_lines.specs.Modules.{places_of}
-use Rattle.planned_modules.specs.Needs.{modules}
-use Rattle.planned_modules.specs.Planner.{sources_of}
-use Rattle.planned_modules.proofs.Inside.{places-inside}
+use Rattle.plan_sources.specs.Sources.{modules}
+use Rattle.plan_sources.specs.Planner.{sources_of}
+use Rattle.plan_sources.proofs.Inside.{places-inside}
 use Rattle.planned_modules.proofs.members.request_of.Goals as goal
 
 pub returns-clause-inside : goal.returns-clause-inside

@@ -2,8 +2,8 @@ use Rattle.std.proofs.Common.{◌≡◌, take, map, length}
 use Rattle.relation_order.specs.Search.{Inside}
 use Rattle.plan_order.specs.Lists.{items_of}
 use Rattle.dependency_lines.specs.Modules.{places_of}
-use Rattle.planned_modules.specs.Needs.{modules}
-use Rattle.planned_modules.specs.Planner.{sources_of}
+use Rattle.plan_sources.specs.Sources.{modules}
+use Rattle.plan_sources.specs.Planner.{sources_of}
 use Rattle.planned_modules.proofs.members.requests_of.Given as goal
 
 abbrev pub invariant-loop-found : goal.invariant-loop-found

@@ -1,5 +1,5 @@
 use Rattle.std.proofs.Common.{◌≡◌, ◌++◌, take}
-use Rattle.planned_modules.specs.Kept.{texts}
+use Rattle.plan_sources.specs.Kept.{texts}
 use Rattle.planned_modules.proofs.needs.push_all.Given as goal
 
 abbrev pub invariant-loop-name : goal.invariant-loop-name

@@ -5,8 +5,8 @@ use Rattle.plan_order.specs.Plan.{planned}
 use Rattle.plan_order.specs.Lists.{among, items_of}
 use Rattle.plan_order.specs.Answer.{IsAnswer}
 use Rattle.planned_modules.specs.Needs.{before, after}
-use Rattle.planned_modules.specs.Planner.{sources_of}
-use Rattle.planned_modules.specs.Softdeps.{before_once, after_once}
+use Rattle.plan_sources.specs.Planner.{sources_of}
+use Rattle.planned_modules.specs.Kept.{before_once, after_once}
 use Rattle.planned_modules.proofs.Repeats.{among-once, planned-once, answer-once}
 use Rattle.planned_modules.proofs.planned.planned_among.Goals as goal
 

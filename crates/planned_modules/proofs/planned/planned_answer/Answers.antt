@@ -5,7 +5,7 @@ use Rattle.plan_order.specs.Plan.{planned}
 use Rattle.plan_order.specs.Lists.{among, items_of}
 use Rattle.plan_order.specs.Answer.{IsAnswer}
 use Rattle.planned_modules.specs.Needs.{before, after, unloaded}
-use Rattle.planned_modules.specs.Planner.{sources_of}
+use Rattle.plan_sources.specs.Planner.{sources_of}
 use Rattle.planned_modules.proofs.planned.planned_answer.Goals as goal
 
 pub returns-clause-marks : goal.returns-clause-marks

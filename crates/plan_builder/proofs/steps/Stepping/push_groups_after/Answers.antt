@@ -4,7 +4,7 @@ use Rattle.std.specs.Prelude.{◌||◌, slice_index, OnOk}
 use Rattle.name_table.specs.FirstSeen.{is_among}
 use Rattle.name_lookup.specs.declared.found.Found.{Found}
 use Rattle.std.proofs.lemmas.List.{get_or_default}
-use Rattle.planned_modules.specs.Planner.{sources_of}
+use Rattle.plan_sources.specs.Planner.{sources_of}
 use Rattle.plan_builder.specs.Steps.{own_steps, module_step}
 use Rattle.plan_builder.specs.Ends.{steps_by}
 use Rattle.plan_builder.proofs.StepLaws.{steps-next, steps-past, rest-slice}

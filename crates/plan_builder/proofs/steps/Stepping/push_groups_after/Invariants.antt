@@ -1,6 +1,6 @@
 use Rattle.std.proofs.Common.{◌≡◌, ◌<◌, ◌≤◌, ◌++◌, drop, length}
 use Rattle.std.specs.Prelude.{slice_index}
-use Rattle.planned_modules.specs.Planner.{sources_of}
+use Rattle.plan_sources.specs.Planner.{sources_of}
 use Rattle.plan_builder.specs.Ends.{steps_by}
 use Rattle.plan_builder.proofs.steps.Stepping.push_groups_after.Given as goal
 

@@ -1,6 +1,6 @@
 use Rattle.std.proofs.Common.{◌≡◌, ◌++◌, take, map}
 use Rattle.plan_builder.specs.Steps.{module_step}
-use Rattle.planned_modules.specs.Planner.{sources_of}
+use Rattle.plan_sources.specs.Planner.{sources_of}
 use Rattle.plan_builder.proofs.steps.Stepping.push_modules.Given as goal
 
 abbrev pub invariant-loop-place : goal.invariant-loop-place

@@ -1,6 +1,6 @@
 use Rattle.std.proofs.Common.{◌+◌, ◌++◌, take, ap, sym, ◌∙◌, append_assoc}
 use Rattle.plan_builder.specs.Steps.{own_step_unless, own_steps}
-use Rattle.planned_modules.specs.Planner.{sources_of}
+use Rattle.plan_sources.specs.Planner.{sources_of}
 use Rattle.planned_modules.proofs.Finds.{flat-more}
 use Rattle.plan_builder.proofs.steps.Stepping.push_own_steps.Goals as goal
 

@@ -1,6 +1,6 @@
 use Rattle.std.proofs.Common.{◌≡◌, ◌++◌, take}
 use Rattle.plan_builder.specs.Steps.{own_steps}
-use Rattle.planned_modules.specs.Planner.{sources_of}
+use Rattle.plan_sources.specs.Planner.{sources_of}
 use Rattle.plan_builder.proofs.steps.Stepping.push_own_steps.Given as goal
 
 abbrev pub invariant-loop-name : goal.invariant-loop-name

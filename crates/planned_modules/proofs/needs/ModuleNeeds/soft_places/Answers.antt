@@ -1,38 +1,62 @@
-use Rattle.std.proofs.Common.{◌≡◌, ◌==◌, [], not, filter, ap, subst, ◌∙◌}
+use Rattle.std.proofs.Common.{◌≡◌, ◌<◌, ℕ, List, length, ap, sym, subst, ◌∙◌}
 use Rattle.std.specs.Prelude.{IfOk}
 use Rattle.std.specs.List.{flat_map}
-use Rattle.std.specs.Option.{unwrap_or}
+use Rattle.index_format.specs.Listing.{KeyValue}
+use Rattle.modprobe_conf.specs.declared.rule.Rule.{Rule}
 use Rattle.dependency_lines.specs.Modules.{name_at}
-use Rattle.planned_modules.specs.Needs.{modules, soft_places}
-use Rattle.planned_modules.specs.Planner.{sources_of}
-use Rattle.planned_modules.specs.Kept.{names_on, texts}
-use Rattle.planned_modules.specs.Softdeps.{kept_places, once}
-use Rattle.planned_modules.proofs.SoftSteps.{soft-given}
+use Rattle.plan_sources.specs.Sources.{modules, soft_places}
+use Rattle.plan_sources.specs.Planner.{Held, sources_of}
+use Rattle.plan_sources.specs.Kept.{texts}
+use Rattle.plan_sources.specs.Softdeps.{AreSoftNames, once}
+use Rattle.planned_modules.specs.declared.needs.Side.{Side}
+use Rattle.planned_modules.specs.Kept.{names_on}
+use Rattle.planned_modules.proofs.SoftNames.{on-rules}
 use Rattle.planned_modules.proofs.needs.ModuleNeeds.soft_places.Goals as goal
+
+-- the names that were gathered are those of the rules
+names-are : (side : Side) (place : ℕ) (h p : Held) (ms : List KeyValue) (own : List ℕ)
+    (rules : List Rule) (names : List (List ℕ))
+    → names ≡ flat_map (names_on side own) rules → own ≡ name_at ms place
+    → ms ≡ modules (sources_of p) → rules ≡ p.rules → p ≡ h
+    → names ≡ flat_map (names_on side (name_at (modules (sources_of h)) place)) h.rules
+names-are side place h p ms own rules names gathered named of_sources of_rules same =
+    gathered
+    ∙ (λ i. flat_map (names_on side (named i)) (of_rules i))
+    ∙ (λ i. flat_map (names_on side (name_at (of_sources i) place)) p.rules)
+    ∙ ap (λ (h : Held). flat_map (names_on side (name_at (modules (sources_of h)) place)) h.rules)
+    same
+
+pub name-name-requires : goal.name-name-requires
+name-name-requires c =
+    subst (λ (ms : List KeyValue). c.args.place < length ms)
+    (sym (c.modules.ensures
+    ∙ ap (λ h. modules (sources_of h)) (c.planner-planner.ensures ∙ c.self.view_is)))
+    c.requires
+
+pub places-requires : goal.places-requires
+places-requires c =
+    let h = c.self.inside.soft.now in
+    let own = name_at (modules (sources_of h)) c.args.place in
+    subst (AreSoftNames h.rules)
+    (sym (names-are c.args.side c.args.place h c.planner-planner.result.now c.modules.result.now
+    c.name-name.result.now c.rules.result.now (texts c.deref.result.now)
+    (ap texts c.deref.ensures.value ∙ c.in_ok-names.ensures) c.name-name.ensures
+    c.modules.ensures c.rules.ensures c.planner-planner.ensures))
+    (λ name among. on-rules c.args.side own name h.rules among)
 
 pub returns : goal.returns
 returns c =
-    let s = sources_of c.self.inside.planner.now in
-    let lists = c.self.inside.soft.entries in
+    let h = c.self.inside.soft.now in
     let side = c.args.side in
     let place = c.args.place in
-    let own = name_at (modules s) place in
-    let name = c.name.ensures ∙ ap (λ ms. name_at ms place) c.modules-modules.ensures in
-    let named : texts c.deref.result.now
-    ≡ flat_map (names_on c.args.side
-    (name_at (modules (sources_of c.self.inside.planner.now)) c.args.place))
-    (sources_of c.self.inside.planner.now).rules
-    =
-    ap texts c.deref.ensures.value ∙ c.in_ok-names.ensures
-    ∙ (λ i. flat_map (names_on side (name i)) (c.rules.ensures i)) in
-    let all =
-    ap (λ names. filter (λ y. not (y == place))
-    (flat_map (λ n. unwrap_or (kept_places lists n) []) names)) named
-    ∙ soft-given s lists c.self.invariant side own place in
-    subst (λ places. IfOk c.find_named.result (λ v. v.items ≡ places))
-    (ap once all
-    ∙ ap (λ h. once
+    subst (λ places. IfOk c.places.result (λ v. v.items ≡ places))
+    (ap (λ names. once (soft_places (sources_of h) place names))
+    (names-are side place h c.planner-planner.result.now c.modules.result.now
+    c.name-name.result.now c.rules.result.now (texts c.deref.result.now)
+    (ap texts c.deref.ensures.value ∙ c.in_ok-names.ensures) c.name-name.ensures
+    c.modules.ensures c.rules.ensures c.planner-planner.ensures)
+    ∙ ap (λ (h : Held). once
     (soft_places (sources_of h) place
-    (flat_map (names_on side (name_at (modules (sources_of h)) place))
-    (sources_of h).rules))) c.self.view_is)
-    c.find_named.ensures
+    (flat_map (names_on side (name_at (modules (sources_of h)) place)) h.rules)))
+    c.self.view_is)
+    c.places.ensures

@@ -1,0 +1,5 @@
+pub mod Groups
+pub mod Inside
+pub mod Loadable
+pub mod SoftSteps
+pub mod Troubled

@@ -1,8 +1,0 @@
-use Rattle.std.proofs.Common.{◌≡◌, take, ℕ, List}
-use Rattle.name_table.specs.FirstSeen.{is_among}
-use Rattle.planned_modules.specs.Needs.{is_troubled}
-use Rattle.planned_modules.proofs.planner.troubled_paths.Given as goal
-
-abbrev pub invariant-loop-line : goal.invariant-loop-line
-invariant-loop-line l =
-    (path : List ℕ) → is_among l.paths path ≡ is_troubled (take l.line-index l.unmet) path

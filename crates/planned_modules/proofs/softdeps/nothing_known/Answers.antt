@@ -1,9 +1,0 @@
-use Rattle.std.proofs.Common.{◌++◌, ◌∷◌, [], None, ap, ◌∙◌}
-use Rattle.std.proofs.lemmas.List.{replicate-append-replicate}
-use Rattle.planned_modules.proofs.softdeps.nothing_known.Goals as goal
-
-pub loop-preserved : goal.loop-preserved
-loop-preserved c =
-    c.in_ok-push.ensures.items
-    ∙ ap (λ xs. xs ++ None ∷ []) c.loop.invariant
-    ∙ replicate-append-replicate c.loop.counter 1 None
