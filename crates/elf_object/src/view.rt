@@ -52,10 +52,9 @@ impl<'a> ObjectView<'a> {
     ///
     /// # Errors
     ///
-    /// The same as for [`Object::read`](crate::Object::read), but `Memory` doesn't depend on what
-    /// a list would take. It only comes past 2^32 bytes of names of sections, 2^34 of names of
-    /// symbols, or 2^33 of tables of relocations, which no file under a megabyte has, and if the
-    /// sections and symbols themselves don't fit.
+    /// The same as for [`Object::read`](crate::Object::read), but its limits are others: 2^32 bytes
+    /// of names of sections, 2^34 of names of symbols, and 2^33 of tables of relocations. No file
+    /// under a megabyte has more.
     pub fn read(alloc: Global, bytes: &'a [u8]) -> Result<ObjectView<'a>, ObjectFault>
         requires { length bytes.now ≤ file_limit }
         ensures object { IfOk result (λ v. v ≡ file_object bytes.now) }
