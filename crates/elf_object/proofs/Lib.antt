@@ -1,4 +1,5 @@
 pub mod ApartLemmas
+pub mod ChangedLemmas
 pub mod Inside
 pub mod ObjectLemmas
 pub mod OverlapLemmas
@@ -6,4 +7,6 @@ pub mod PlaceLemmas
 pub mod SpanLemmas
 pub mod SymbolLemmas
 pub mod TableLemmas
+pub mod TargetLemmas
+pub mod TargetSteps
 pub mod TestLemmas

@@ -10,13 +10,13 @@ use Rattle.elf_sections.proofs.ShapeLemmas.{sections_of-slice_get}
 use Rattle.elf_object.specs.FaultText.{object_fault_from}
 use Rattle.elf_sections.specs.declared.fault.SectionFault.TheVariants.{Memory}
 use Rattle.std.proofs.Common.{◌≡◌, ℕ, List, [], ◌∷◌, Option, Some, None, refl, ◌⊎◌, inl, inr}
-use Rattle.std.proofs.Common.{length, ◌≤◌, ◌<◌, ◌^◌, ◌&&◌, not, true, ◌∙◌, arith}
+use Rattle.std.proofs.Common.{length, ◌≤◌, ◌<◌, ◌^◌, ◌&&◌, not, true, arith}
 use Rattle.km_names.specs.First.{first}
 use Rattle.elf_sections.specs.declared.fault.SectionFault.{SectionFault}
 use Rattle.elf_object.specs.declared.fault.ObjectFault.{ObjectFault}
 use Rattle.elf_object.specs.declared.fault.ObjectFault.TheVariants.{Shape, BadAlign}
 use Rattle.elf_object.specs.declared.fault.ObjectFault.TheVariants.{Memory as OutOfMemory}
-use Rattle.elf_sections.specs.Shape.{AllInFile, HasTable, each, section_count, shape_fault}
+use Rattle.elf_sections.specs.Shape.{AllInFile, each, section_count, shape_fault}
 use Rattle.elf_sections.specs.Shape.{contents}
 use Rattle.elf_object.specs.Symbols.{entries, rel_test, symbol_bytes, symbol_test, symbol_tests}
 use Rattle.elf_object.specs.Symbols.{table_test, symbols_of, symbols_in, symbol_in, symbol_names}
@@ -25,9 +25,6 @@ use Rattle.elf_object.specs.Places.{align_test, is_alignment, overlap_test, plac
 use Rattle.elf_object.specs.Places.{rela_test}
 use Rattle.elf_object.specs.Object.{IsLoadable, IsPlaceIn, IsSectionIn, IsSymbolIn, content_tests}
 use Rattle.elf_object.specs.Object.{file_object, object_fault, object_tests}
-use Rattle.elf_object.specs.declared.overlap.Order.{Order}
-use Rattle.elf_object.specs.Overlap.{IsOrderOf}
-use Rattle.elf_object.proofs.OverlapLemmas.{overlaps-none}
 use Rattle.elf_object.proofs.TestLemmas.{All-range, each-none, fault_if-none, first-parts}
 use Rattle.elf_sections.proofs.TestLemmas.{first-failed, first-passed}
 use Rattle.elf_object.specs.Inner.{TablesFit}
@@ -99,15 +96,6 @@ content_tests-symbols b fault symbols = first-failed (symbol_tests b) (place_tes
 pub content_tests-places : (b : List ℕ) → first (symbol_tests b) ≡ None
     → first (content_tests b) ≡ first (place_tests b)
 content_tests-places b symbols = first-passed (symbol_tests b) (place_tests b) symbols
-
--- places that stand in order pass the last of their tests
-pub place_tests-ordered : (b : List ℕ) (order : Order) → length b ≤ file_limit → HasTable b
-    → AllInFile b → TablesFit b → first (each (section_count b) (align_test b)) ≡ None
-    → first (each (section_count b) (rela_test b)) ≡ None → IsOrderOf order (places_of b)
-    → order.holds ≡ true → first (place_tests b) ≡ None
-place_tests-ordered b order small has within fit align rela ordered holds =
-    place_tests-overlaps b align rela
-    ∙ overlaps-none b small (All-places_of b has within fit rela) (ordered holds).once
 
 -- a fault of the sections, as one of the object
 pub object_fault-from : (b : List ℕ) (fault : SectionFault)

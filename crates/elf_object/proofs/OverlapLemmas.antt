@@ -3,7 +3,7 @@ use Rattle.std.specs.Prelude.{option_map}
 use Rattle.km_names.specs.Limit.{file_limit}
 use Rattle.elf_object.proofs.SpanLemmas.{is_between-from, is_between-true}
 use Rattle.std.proofs.Common.{◌≡◌, ℕ, ◌+◌, ◌*◌, ◌^◌, ◌<◌, ◌≤◌, ◌&&◌, ◌==◌, nat_lt, nat_le, Bool}
-use Rattle.std.proofs.Common.{true, false, cond, List, [], ◌∷◌, length, All, Some, None, refl, sym}
+use Rattle.std.proofs.Common.{true, false, cond, List, [], ◌∷◌, length, All, None, refl, sym}
 use Rattle.std.proofs.Common.{ap, ◌∙◌, inl, inr, arith}
 use Rattle.std.proofs.lemmas.Bool.{cases_Bool, cases_lt, lt-ltb, le-ltb, ltb-true, and_parts}
 use Rattle.std.proofs.lemmas.Bool.{and_from, and_right, both_ways, eq-eqb, eqb-true, le-leb}
@@ -19,8 +19,8 @@ use Rattle.elf_sections.specs.Sections.{section_of}
 use Rattle.elf_object.specs.Places.{covers, is_shared, overlap_test, place_width, places_of}
 use Rattle.elf_object.proofs.Inside.{IsInSection}
 use Rattle.elf_object.specs.Overlap.{IsNear, count_at, is_between, place_end, place_start}
-use Rattle.elf_sections.proofs.TestLemmas.{each-failed, each-passed}
-use Rattle.elf_object.proofs.TableLemmas.{position-no_number, position-number}
+use Rattle.elf_sections.proofs.TestLemmas.{each-passed}
+use Rattle.elf_object.proofs.TableLemmas.{position-no_number}
 
 -- a place of the file is near
 pub IsNear-inside : (b : List ℕ) (p : RelaPlace) → length b ≤ file_limit → IsInSection b p
@@ -94,7 +94,7 @@ count_by-same p q P same (x ∷ xs) all =
     sum_by-cons (λ y. cond (p y) 1 0) x xs
     ∙ rw (here, rest) (sym (sum_by-cons (λ y. cond (q y) 1 0) x xs))
 
-count_by-none : {X : Type 0} (p : X → Bool) (P : X → Type 0) → ((x : X) → P x → p x ≡ false)
+pub count_by-none : {X : Type 0} (p : X → Bool) (P : X → Type 0) → ((x : X) → P x → p x ≡ false)
     → (xs : List X) → All P xs → count_by p xs ≡ 0
 count_by-none p P none [] all = refl
 count_by-none p P none (x ∷ xs) all =
@@ -103,7 +103,7 @@ count_by-none p P none (x ∷ xs) all =
     sum_by-cons (λ y. cond (p y) 1 0) x xs ∙ rw (here, rest) refl
 
 -- an item that is counted
-count_by-member : {X : Type 0} (p : X → Bool) (xs : List X) → 0 < count_by p xs
+pub count_by-member : {X : Type 0} (p : X → Bool) (xs : List X) → 0 < count_by p xs
     → (x : X) × ((P : X → Type 0) → All P xs → P x) × (p x ≡ true)
 count_by-member p [] some = absurd (omega arith)
 count_by-member p (x ∷ xs) some = elim (cases_Bool (p x)) [
@@ -160,45 +160,9 @@ module _ (b : List ℕ) (small : length b ≤ file_limit) (inside : All (IsInSec
         (position-no_number (is_shared (places_of b) i) (section_of b i).size
         (λ k less. is_shared-once i k (λ near. once k near)))
 
-    overlap_test-found : (i x : ℕ) → x < 2 ^ 32 → x < (section_of b i).size
-        → 1 < count_at place_start place_end (i * 2 ^ 32 + x) (places_of b)
-        → ((k : ℕ) → k < x → count_at place_start place_end (i * 2 ^ 32 + k) (places_of b) ≤ 1)
-        → overlap_test b i ≡ Some (OverlappingPlaces i x)
-    unfolding overlap_test
-    overlap_test-found i x near less twice before =
-        ap (option_map (λ y. OverlappingPlaces i y))
-        (position-number (is_shared (places_of b) i) (section_of b i).size x less
-        (λ k below. is_shared-once i k (λ _. before k below))
-        (is_shared-number i x near
-        ∙ lt-ltb 1 (count_at place_start place_end (i * 2 ^ 32 + x) (places_of b)) twice))
-
     -- no number is counted twice
     pub overlaps-none : ((a : ℕ) → count_at place_start place_end a (places_of b) ≤ 1)
         → first (each (section_count b) (overlap_test b)) ≡ None
     overlaps-none once =
         each-passed (section_count b) (overlap_test b)
         (λ i less. overlap_test-none i (λ x near. once (i * 2 ^ 32 + x)))
-
-    -- the least number that is counted twice
-    pub overlaps-found : (t x : ℕ) → x < 2 ^ 32
-        → 1 < count_at place_start place_end (t * 2 ^ 32 + x) (places_of b)
-        → ((k : ℕ) → k < t * 2 ^ 32 + x → count_at place_start place_end k (places_of b) ≤ 1)
-        → first (each (section_count b) (overlap_test b)) ≡ Some (OverlappingPlaces t x)
-    overlaps-found t x near twice before =
-        let member
-        = count_by-member (λ p. is_between (place_start p) (place_end p) (t * 2 ^ 32 + x))
-        (places_of b) (omega arith) in
-        let p = member.0 in
-        let is_near = member.1 IsNear near_places in
-        let is_inside = member.1 (IsInSection b) inside in
-        let numbers = is_between-true (place_start p) (place_end p) (t * 2 ^ 32 + x) member.2 in
-        let bytes : 0 < place_width p = omega arith in
-        let fits = is_near bytes in
-        let target : p.target ≡ t = omega arith in
-        let within : x < p.offset + place_width p = omega arith in
-        let size = rw target at (is_inside.within bytes) in
-        let less = rw target at is_inside.target in
-        each-failed (section_count b) (overlap_test b) t (OverlappingPlaces t x) less
-        (λ i below. overlap_test-none i (λ y close. before (i * 2 ^ 32 + y) (omega arith)))
-        (overlap_test-found t x near (omega arith) twice
-        (λ k below. before (t * 2 ^ 32 + k) (omega arith)))

@@ -136,6 +136,16 @@ place_test-passed count unkept room p passed =
           ];
     }
 
+-- a place that passed its tests has room in its section
+pub entry_test-room : (b : List ℕ) (i j : ℕ) → entry_test b i j ≡ None
+    → 0 < place_width (place_of b i j)
+    → (place_of b i j).offset + place_width (place_of b i j)
+    ≤ room_in (section_of b (section_of b i).info)
+entry_test-room b i j passed some =
+    ((place_test-passed (length (symbols_of b))
+    (is_unkept (sections_of b) (symbols_of b) (place_of b i j).symbol)
+    (room_in (section_of b (section_of b i).info)) (place_of b i j) passed).bytes some).0
+
 -- a section with room has bytes, and all of them
 has_room : (s : Section) (n : ℕ) → 0 < n → n ≤ room_in s → (n ≤ s.size) × (s.kind ≢ SHT_NOBITS)
 has_room s n some fits = elim (cases_Bool (s.kind == SHT_NOBITS)) [

@@ -1,13 +1,13 @@
 -- What the steps of reading an object file guarantee each other.
 -- It belongs to the code: no public meaning rests on it.
-use Rattle.std.specs.Prelude.{◌≡◌, ℕ, ◌<◌, Bool, true, List, map, Some}
+use Rattle.std.specs.Prelude.{◌≡◌, ℕ, ◌+◌, ◌<◌, ◌≤◌, Bool, true, List, length, map, get_or, Some}
 use Rattle.elf_format.specs.declared.section.TheConstants.{SHT_RELA}
 use Rattle.elf_object.specs.declared.met.MetPlaces.{MetPlaces}
 use Rattle.elf_object.specs.declared.place.RelaPlace.{RelaPlace}
 use Rattle.elf_sections.specs.declared.section.Section.{Section}
 use Rattle.elf_object.specs.declared.symbol.Symbol.{Symbol}
 use Rattle.elf_object.specs.Overlap.{IsOrderOf}
-use Rattle.elf_object.specs.Places.{lies_unkept}
+use Rattle.elf_object.specs.Places.{is_applied, lies_unkept, room_in}
 use Rattle.elf_sections.specs.Shape.{section_count}
 use Rattle.elf_sections.specs.Sections.{section_of}
 use Rattle.elf_object.specs.Symbols.{symbol_table}
@@ -28,3 +28,31 @@ unkept_flags sections symbols = map (lies_unkept sections) symbols
 pub record HasMet (m : MetPlaces) (places : List RelaPlace) : Type 0 where
   pub order : IsOrderOf m.order places
   pub kept : m.keeps ≡ true → m.list.items ≡ places
+
+-- The section i holds relocations of the section t, which is kept.
+pub record HoldsPlacesOf (b : List ℕ) (t i : ℕ) : Type 0 where
+  pub applied : is_applied b i ≡ true
+  pub target : (section_of b i).info ≡ t
+
+-- The section k is the first from `from` on that holds relocations of the section t, or the count of
+-- sections if none does.
+pub record IsNextTable (b : List ℕ) (t from k : ℕ) : Type 0 where
+  pub low : from ≤ k
+  pub high : k ≤ section_count b
+  pub between : (j : ℕ) → from ≤ j → j < k → HoldsPlacesOf b t j → ⊥
+  pub here : k < section_count b → HoldsPlacesOf b t k
+
+-- The lists have for each section the first table of its relocations, of those from `from` on, and
+-- for each of these the next one of the same section.
+pub record AreTargetTables (b first next : List ℕ) (from : ℕ) : Type 0 where
+  pub first_length : length first ≡ section_count b
+  pub next_length : length next ≡ section_count b
+  pub firsts : (t : ℕ) → t < section_count b → IsNextTable b t from (get_or first t 0)
+  pub nexts : (i : ℕ) → from ≤ i → i < section_count b → is_applied b i ≡ true
+      → IsNextTable b (section_of b i).info (i + 1) (get_or next i 0)
+
+-- No section whose relocations are applied has more bytes that these may change.
+abbrev pub HasRoom : List ℕ → ℕ → Type 0
+HasRoom b n =
+    (i : ℕ) → i < section_count b → is_applied b i ≡ true
+    → room_in (section_of b (section_of b i).info) ≤ n

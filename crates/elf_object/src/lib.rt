@@ -11,11 +11,12 @@
 //! relocations. So what may overlap is added up before it is kept. The names of the sections have
 //! at most [`NAME_LIMIT`] bytes together, and so have the names of the symbols. The tables have no
 //! more than four times as many as a file may have. Otherwise the answer is out of memory, before
-//! more than that was searched or copied. Time is linear in the file and those bytes, except for
-//! sorting places that aren't in order.
+//! more than that was copied. Time is linear in the file and those bytes.
 //!
 //! An `ObjectView` shows a file that passed the same tests to readers that don't load it: names
-//! stay in the file, and the places are tested and not kept.
+//! stay in the file, and the places are tested and not kept. It takes memory in proportion to the
+//! file, so its limits only bound its time, and no file under a megabyte meets them: 2^32 bytes of
+//! names of sections, 2^34 of names of symbols, and 2^33 of tables.
 //!
 //! The crate uses `elf_sections` for the sections, which it hands on, `elf_format` for the numbers
 //! of the format, `km_names` for names and numbers, and `thiserror` for the error traits. The bytes
@@ -23,6 +24,7 @@
 //! place.
 #![tactic(auto)]
 
+mod changed;
 mod fault;
 mod met;
 mod object;
@@ -30,8 +32,10 @@ mod overlap;
 mod parts;
 mod place;
 mod places;
+mod shared;
 mod symbol;
 mod tables;
+mod targets;
 mod view;
 mod widths;
 

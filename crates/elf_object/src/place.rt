@@ -112,6 +112,15 @@ pub(crate) fn check_place(unkept: &[bool], room: u64, place: &RelaPlace) -> Resu
     Ok(size)
 }
 
+/// Returns how many bytes a place changes.
+#[inline(always)]
+pub(crate) fn place_width(place: &RelaPlace) -> u8
+    ensures { result ≡ place_width place.now }
+{
+    let width = width_or_unknown(place.kind);
+    if width == UNKNOWN { 0 } else { width }
+}
+
 /// Returns a number of 64 bits as two's complement. gABI 4, "Data Representation", Elf64_Sxword.
 fn signed(bits: u64) -> i64
     ensures { result ≡ signed bits }

@@ -15,17 +15,22 @@ ghost use Rattle.elf_object.specs.Inner.{HasMet, TablesFit, unkept_flags};
 ghost use Rattle.elf_object.specs.Overlap.{IsOrderOf};
 
 use crate::met::MetPlaces;
-use crate::overlap::{Order, SECTION, find_shared};
+use crate::overlap::Order;
 use crate::place::{check_place, place_at, room_in};
+use crate::shared::check_shared;
 use crate::{ObjectFault, RelaPlace};
 use elf_format::{PAGE, RELA_SIZE, SHT_RELA};
-use elf_sections::SectionTable;
+use elf_sections::{SectionTable, bytes_left};
 use km_names::{FILE_LIMIT, List};
 use std::alloc::{AllocError, Global};
 
-/// The greatest total size of the tables of relocations, in bytes: four times as many as a file may
-/// have. Only tables that share their bytes have more.
+/// The greatest total size of the tables of relocations of which a list is made, in bytes: four times
+/// as many as a file may have. Only tables that share their bytes have more.
 const TABLE_LIMIT: usize = 4 * FILE_LIMIT;
+
+/// The greatest total size of the tables of relocations that are only tested, in bytes: 2^33. No file
+/// under a megabyte has as many, however its tables share their bytes.
+const TESTED_TABLE_LIMIT: usize = 8_589_934_592;
 
 /// Reads the places of a file, by what is known of its symbols, and tests the sections that they
 /// change.
@@ -45,9 +50,9 @@ pub(crate) fn read_places(
         (λ e. (e ≡ ObjectFault.Memory) ⊎ (first (place_tests sections.now.file) ≡ Some e)) }
 {
     check_alignments(sections)?;
-    let mut met = MetPlaces::listing(alloc, relocation_count(sections)?)?;
+    let mut met = MetPlaces::listing(alloc, relocation_count(sections, TABLE_LIMIT)?)?;
     meet_places(sections, unkept, &mut met)?;
-    check_overlaps(alloc, sections, &met.list, &met.order)?;
+    check_overlaps(alloc, sections, &met.order)?;
     let MetPlaces { list, .. } = met;
     Ok(List::from_vec(list))
 }
@@ -70,13 +75,10 @@ pub(crate) fn check_places(
 {
     check_alignments(sections)?;
     // Tables may share their bytes, so they are added up before they are read.
-    relocation_count(sections)?;
+    relocation_count(sections, TESTED_TABLE_LIMIT)?;
     let mut met = MetPlaces::testing(alloc);
     meet_places(sections, unkept, &mut met)?;
-    if !met.order.holds {
-        read_places(alloc, sections, unkept)?;
-    }
-    Ok(())
+    check_overlaps(alloc, sections, &met.order)
 }
 
 /// Tests the alignments of the sections that are kept.
@@ -98,21 +100,17 @@ fn check_alignments(sections: &SectionTable) -> Result<(), ObjectFault>
 ///
 /// # Errors
 ///
-/// The tables together have more than `TABLE_LIMIT` bytes.
-fn relocation_count(sections: &SectionTable) -> Result<usize, AllocError>
+/// The tables together have more than `limit` bytes.
+fn relocation_count(sections: &SectionTable, limit: usize) -> Result<usize, AllocError>
     requires { TablesFit sections.now.file }
 {
-    let mut left = TABLE_LIMIT;
+    let mut left = limit;
     for index in 0..sections.section_count() {
         if is_applied(sections, index) {
-            let size = sections.section_bytes(index).len();
-            if left < size {
-                return Err(AllocError);
-            }
-            left -= size;
+            left = bytes_left(left, sections.section_bytes(index).len())?;
         }
     }
-    Ok((TABLE_LIMIT - left) / RELA_SIZE)
+    Ok((limit - left) / RELA_SIZE)
 }
 
 /// Meets all places of a file. None was met before.
@@ -141,18 +139,13 @@ fn meet_places(
     Ok(())
 }
 
-/// Tests that no byte is changed by two places.
-fn check_overlaps(
-    alloc: Global,
-    sections: &SectionTable,
-    places: &[RelaPlace],
-    order: &Order,
-) -> Result<(), ObjectFault>
+/// Tests that no byte is changed by two places. Places in order, as tools write them, take no more
+/// time or memory.
+fn check_overlaps(alloc: Global, sections: &SectionTable, order: &Order) -> Result<(), ObjectFault>
     requires small { length sections.now.file ≤ file_limit }
     requires fit { TablesFit sections.now.file }
     requires read { IsRead sections.now.file sections.now.list }
-    requires places { places.now ≡ places_of sections.now.file }
-    requires order { IsOrderOf order.now places.now }
+    requires order { IsOrderOf order.now (places_of sections.now.file) }
     requires passed { first (each (section_count sections.now.file) (rela_test sections.now.file))
         ≡ None }
     ensures passed { OnOk result
@@ -162,13 +155,10 @@ fn check_overlaps(
         ⊎ (first (each (section_count sections.now.file) (overlap_test sections.now.file))
         ≡ Some e)) }
 {
-    match find_shared(alloc, places, order)? {
-        None => Ok(()),
-        Some(byte) => Err(ObjectFault::OverlappingPlaces {
-            section: (byte / SECTION) as u32,
-            offset: byte % SECTION,
-        }),
+    if order.holds {
+        return Ok(());
     }
+    check_shared(alloc, sections)
 }
 
 /// Returns whether an alignment is a power of two of at most a page, or 0.
@@ -181,7 +171,7 @@ fn is_alignment(align: u64) -> bool
 
 /// Returns whether the section `index` holds relocations of a section that is kept.
 #[tactic(auto, unfolding(crate::specs::Places::is_applied))]
-fn is_applied(sections: &SectionTable, index: u32) -> bool
+pub(crate) fn is_applied(sections: &SectionTable, index: u32) -> bool
     requires fit { TablesFit sections.now.file }
     requires index { index < length sections.now.list }
     ensures { result ≡ is_applied sections.now.file index }

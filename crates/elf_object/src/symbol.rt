@@ -13,7 +13,7 @@ use crate::ObjectFault;
 use elf_format::{
     SHN_ABS, SHN_COMMON, SHN_LORESERVE, SHN_UNDEF, SHN_XINDEX, STB_LOCAL, STB_WEAK, SYM_SIZE,
 };
-use elf_sections::{NAME_LIMIT, SectionFault, string_within};
+use elf_sections::{NAME_LIMIT, SEARCH_LIMIT, SectionFault, bytes_left, string_within};
 use km_names::{List, Name, le_u16_at, le_u32_at, le_u64_at};
 use std::alloc::{AllocError, Global};
 
@@ -54,7 +54,7 @@ pub(crate) struct SymbolEntry {
 }
 
 /// Returns the symbols of a table, by its string table and the count of sections. Their names
-/// together have at most `NAME_LIMIT` bytes.
+/// together have at most `SEARCH_LIMIT` bytes.
 pub(crate) fn read_symbols<'a>(
     alloc: Global,
     table: &[u8],
@@ -71,7 +71,7 @@ pub(crate) fn read_symbols<'a>(
 {
     let entries = table.len() / SYM_SIZE;
     let mut symbols = Vec::with_capacity(alloc, entries)?;
-    let mut left = NAME_LIMIT;
+    let mut left = SEARCH_LIMIT;
     for index in 0..entries as u32 {
         let symbol = read_symbol(table, names, count, index, left)?;
         left -= symbol.name.len();
@@ -80,13 +80,15 @@ pub(crate) fn read_symbols<'a>(
     Ok(List::from_vec(symbols))
 }
 
-/// Returns the symbols with names of their own.
+/// Returns the symbols with names of their own. Together these have at most `NAME_LIMIT` bytes,
+/// which is tested before any is copied.
 pub(crate) fn owned_symbols(
     alloc: Global,
     symbols: &[SymbolRef],
 ) -> Result<List<Symbol>, AllocError>
     ensures { IfOk result (λ l. l ≡ map owned_symbol symbols.now) }
 {
+    check_copies(symbols)?;
     let mut list = Vec::with_capacity(alloc, symbols.len())?;
     for symbol in symbols {
         list.push(Symbol {
@@ -118,6 +120,15 @@ pub(crate) fn borrowed_symbols<'a>(
     Ok(List::from_vec(list))
 }
 
+/// Tests that the names of the symbols together have at most `NAME_LIMIT` bytes.
+fn check_copies(symbols: &[SymbolRef]) -> Result<(), AllocError> {
+    let mut left = NAME_LIMIT;
+    for symbol in symbols {
+        left = bytes_left(left, symbol.name.len())?;
+    }
+    Ok(())
+}
+
 /// Returns the symbol `index` of a table, by its string table and the count of sections. Names may
 /// have `left` bytes more.
 #[tactic(auto, unfolding(crate::specs::Symbols::symbol_in, crate::specs::Symbols::symbol_test_in))]
@@ -129,7 +140,7 @@ fn read_symbol<'a>(
     left: usize,
 ) -> Result<SymbolRef<'a>, ObjectFault>
     requires entry { 24 * index + 24 ≤ length table.now }
-    requires left { left ≤ NAME_LIMIT }
+    requires left { left ≤ SEARCH_LIMIT }
     ensures symbol { IfOk result (λ s. owned_symbol s ≡ symbol_in table.now names.now index) }
     ensures within { IfOk result (λ s. length s.name.now ≤ left) }
     ensures passed { OnOk result (symbol_test_in table.now names.now count index ≡ None) }

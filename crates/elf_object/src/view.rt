@@ -52,7 +52,9 @@ impl<'a> ObjectView<'a> {
     ///
     /// # Errors
     ///
-    /// The same as for [`Object::read`](crate::Object::read).
+    /// The same as for [`Object::read`](crate::Object::read), but its limits are others: 2^32 bytes
+    /// of names of sections, 2^34 of names of symbols, and 2^33 of tables of relocations. No file
+    /// under a megabyte has more.
     pub fn read(alloc: Global, bytes: &'a [u8]) -> Result<ObjectView<'a>, ObjectFault>
         requires { length bytes.now ≤ file_limit }
         ensures object { IfOk result (λ v. v ≡ file_object bytes.now) }

@@ -9,10 +9,11 @@
 //!
 //! A `SectionTable` shows the sections of a file that its reader keeps: names stay in the file.
 //!
-//! Names may share their bytes, so they are added up before they are kept: together they have at
-//! most [`NAME_LIMIT`] bytes. Otherwise the answer is out of memory, before more than that was
-//! searched or copied. Time is linear in the file and those bytes. `string_within` and
-//! `up_to_last_nul` keep it so, also for the tables of other names.
+//! Names may share their bytes, so they are added up before they are searched or copied. Together
+//! they have at most 2^32 bytes if they stay in the file, more than any file under a megabyte has,
+//! and at most [`NAME_LIMIT`] if they are copied. Otherwise the answer is out of memory. Time is
+//! linear in the file and those bytes. `string_within` and `up_to_last_nul` keep it so, also for the
+//! tables of other names.
 //!
 //! The crate uses `elf_format` for the numbers of the format, `km_names` for names and numbers,
 //! `memchr` for the ends of names, and `thiserror` for the error traits. The bytes of sections
@@ -31,4 +32,4 @@ pub use fault::SectionFault;
 pub use section::{Section, SectionRef};
 pub use section_table::SectionTable;
 pub use sections::Sections;
-pub use strings::{NAME_LIMIT, string_within, up_to_last_nul};
+pub use strings::{NAME_LIMIT, SEARCH_LIMIT, bytes_left, string_within, up_to_last_nul};

@@ -8,7 +8,7 @@ ghost use Rattle.elf_sections.specs.Strings.{HasStrings};
 
 use crate::SectionFault;
 use crate::header::section_header;
-use crate::strings::{NAME_LIMIT, string_in, string_within};
+use crate::strings::{SEARCH_LIMIT, string_in, string_within};
 use elf_format::{SHF_ALLOC, SHT_NULL};
 use km_names::Name;
 use std::alloc::{AllocError, Global};
@@ -88,7 +88,7 @@ pub(crate) fn check_name(
     at: u32,
     left: usize,
 ) -> Result<usize, SectionFault>
-    requires { left ≤ NAME_LIMIT }
+    requires { left ≤ SEARCH_LIMIT }
     ensures length { IfOk result (λ size. size ≤ left) }
     ensures passed { OnOk result (name_test_in names.now kind at ≡ None) }
     ensures fault { IfErr result

@@ -16,11 +16,15 @@ use crate::header::{
 };
 use crate::section::{check_name, section_at};
 use crate::section_table::SectionTable;
-use crate::strings::{NAME_LIMIT, up_to_last_nul};
+use crate::strings::{NAME_LIMIT, bytes_left, up_to_last_nul};
 use crate::{Section, SectionFault};
 use elf_format::{SHT_NOBITS, SHT_NULL, SHT_STRTAB};
 use km_names::List;
 use std::alloc::{AllocError, Global};
+
+/// The greatest total size, in bytes, of the names of a file's sections, which are searched for
+/// their ends: 2^32. No file under a megabyte has as many, however its names share their bytes.
+const SECTION_SEARCH_LIMIT: usize = 4_294_967_296;
 
 /// Returns the bytes of the section `index`.
 pub(crate) fn contents(bytes: &[u8], index: u16) -> &[u8]
@@ -65,12 +69,14 @@ pub(crate) fn section_table<'a>(
     })
 }
 
-/// Returns the sections of a file that passed the tests, with names of their own.
+/// Returns the sections of a file that passed the tests, with names of their own. Together these
+/// have at most `NAME_LIMIT` bytes, which is tested before any is copied.
 pub(crate) fn owned_sections(alloc: Global, bytes: &[u8]) -> Result<List<Section>, AllocError>
     requires { IsRead bytes.now (sections_of bytes.now) }
     ensures { IfOk result (λ sections. sections ≡ sections_of bytes.now) }
 {
     let names = section_names(bytes);
+    check_copies(bytes, names)?;
     let count = section_count(bytes);
     let mut sections = Vec::with_capacity(alloc, usize::from(count))?;
     for index in 0..count {
@@ -121,8 +127,20 @@ fn check_name_table(bytes: &[u8]) -> Result<(), SectionFault>
     Ok(())
 }
 
-/// Tests the names of the sections, by the table of names. Together they have at most `NAME_LIMIT`
-/// bytes.
+/// Tests that the names of the sections together have at most `NAME_LIMIT` bytes.
+fn check_copies(bytes: &[u8], names: &[u8]) -> Result<(), AllocError>
+    requires table { HasTable bytes.now }
+    requires names { HasStrings (contents bytes.now (name_table bytes.now)) names.now }
+{
+    let mut left = NAME_LIMIT;
+    for index in 0..section_count(bytes) {
+        left = bytes_left(left, section_at(bytes, names, index).name.len())?;
+    }
+    Ok(())
+}
+
+/// Tests the names of the sections, by the table of names. Together they have at most
+/// `SECTION_SEARCH_LIMIT` bytes.
 fn check_names(bytes: &[u8], names: &[u8]) -> Result<(), SectionFault>
     requires table { HasTable bytes.now }
     requires names { HasStrings (contents bytes.now (name_table bytes.now)) names.now }
@@ -132,7 +150,7 @@ fn check_names(bytes: &[u8], names: &[u8]) -> Result<(), SectionFault>
         (λ e. (e ≡ SectionFault.Memory)
         ⊎ (first (each (section_count bytes.now) (name_test bytes.now)) ≡ Some e)) }
 {
-    let mut left = NAME_LIMIT;
+    let mut left = SECTION_SEARCH_LIMIT;
     for index in 0..section_count(bytes) {
         let header = section_header(bytes, index);
         left -= check_name(names, header.kind, header.name, left)?;

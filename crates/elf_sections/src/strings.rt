@@ -1,6 +1,7 @@
 // Strings in string tables. gABI 4, "String Table".
 
-ghost use Rattle.std.specs.Prelude.{◌≡◌, ◌≤◌, ◌==◌, length, map, Some, IfOk, IfSome, option_copied};
+ghost use Rattle.std.specs.Prelude.{◌≡◌, ◌+◌, ◌<◌, ◌≤◌, ◌==◌, length, map, Some, IfOk, IfSome};
+ghost use Rattle.std.specs.Prelude.{OnErr, option_copied};
 ghost use Rattle.std.specs.Simd.Lanes.{mask_l};
 ghost use Rattle.memchr.specs.Find.{IsFirstByte, is_byte};
 ghost use Rattle.km_names.specs.Strings.{first_string, string_at};
@@ -14,11 +15,15 @@ use std::simd::prelude::*;
 /// How many bytes are looked at together before a search. Nearly all names are shorter.
 const NEAR: usize = 32;
 
-/// The greatest total size, in bytes, of the names of a file's sections, of the names of its
-/// symbols, and of the namespaces of its exports: four times as many as a file may have. Names may
-/// share their bytes, so a small file can ask for any number. The names of a real module together
-/// have less than a tenth of this.
+/// The greatest total size, in bytes, of names that a reader copies: of a file's sections, of its
+/// symbols, of its needs, of its exports, or of their namespaces. It is four times as many as a file
+/// may have. Names may share their bytes, so a small file can ask for far more. The names of a real
+/// module together have less than a tenth of this.
 pub const NAME_LIMIT: usize = 4 * FILE_LIMIT;
+
+/// The greatest total size, in bytes, of names that a reader leaves where they are and only searches
+/// for their ends: 2^34. No file under a megabyte has as many, however its names share their bytes.
+pub const SEARCH_LIMIT: usize = 17_179_869_184;
 
 /// Returns the string at the place `at` of a table, if one is there.
 pub(crate) fn string_in(table: &[u8], at: usize) -> Option<&[u8]>
@@ -37,7 +42,7 @@ pub(crate) fn string_in(table: &[u8], at: usize) -> Option<&[u8]>
 ///
 /// The string is longer than `left` bytes.
 pub fn string_within(table: &[u8], at: u32, left: usize) -> Result<Option<&[u8]>, AllocError>
-    requires { left ≤ NAME_LIMIT }
+    requires { left ≤ SEARCH_LIMIT }
     ensures string { IfOk result (λ string. option_copied string ≡ string_at table.now at) }
     ensures within { IfOk result (λ string. IfSome string (λ name. length name.now ≤ left)) }
 {
@@ -53,6 +58,21 @@ pub fn string_within(table: &[u8], at: u32, left: usize) -> Result<Option<&[u8]>
         None if end < table.len() => Err(AllocError),
         None => Ok(None),
     }
+}
+
+/// Returns how many of `left` bytes are left after a text of `size` bytes.
+///
+/// # Errors
+///
+/// The text is longer than `left` bytes.
+pub fn bytes_left(left: usize, size: usize) -> Result<usize, AllocError>
+    ensures rest { IfOk result (λ rest. rest + size ≡ left) }
+    ensures long { OnErr result (left < size) }
+{
+    if left < size {
+        return Err(AllocError);
+    }
+    Ok(left - size)
 }
 
 /// Returns a string table up to its last NUL. It has the same strings, and no search goes past its

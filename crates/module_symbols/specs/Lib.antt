@@ -1,4 +1,5 @@
 pub mod Contents
+pub mod Hashed
 pub mod Roles
 pub mod SymbolTables
 pub mod Versions

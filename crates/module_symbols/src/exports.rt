@@ -13,7 +13,8 @@ use crate::contents::section_contents;
 use crate::role::{Role, stated_name};
 use crate::tables::{SymbolTables, symbol_of};
 use elf_format::SHN_ABS;
-use elf_object::{NAME_LIMIT, ObjectView, SymbolRef};
+use elf_object::{ObjectView, SymbolRef};
+use elf_sections::{NAME_LIMIT, SEARCH_LIMIT, bytes_left};
 use km_names::{List, Name, le_u32_at, string_at};
 use std::alloc::{AllocError, Global};
 
@@ -78,9 +79,11 @@ pub fn exports_by(
     }
 }
 
-/// Returns the exports, in the order of the symbols that state them. Namespaces may share their
-/// bytes in the file, so a small file can ask for any number of them. If together they would have
-/// more than `NAME_LIMIT` bytes, the answer is out of memory.
+/// Returns the exports, in the order of the symbols that state them. Names and namespaces may share
+/// their bytes in the file, so a small file can ask for any number of them. If the names together, or
+/// the namespaces together, would have more than `NAME_LIMIT` bytes, the answer is out of memory. It
+/// also is if more than `SEARCH_LIMIT` bytes are searched for the ends of namespaces that have none,
+/// which no file under a megabyte has.
 #[tactic(auto, unfolding(crate::specs::Exports::exports_of))]
 fn read_exports(
     alloc: Global,
@@ -91,11 +94,15 @@ fn read_exports(
     ensures { IfOk result (λ exports. exports ≡ exports_of object.now) }
 {
     let mut exports = Exports::new(alloc);
-    let mut left = NAME_LIMIT;
+    let mut names = NAME_LIMIT;
+    let mut spaces = NAME_LIMIT;
+    let mut searches = SEARCH_LIMIT;
     for i in 0..object.symbol_count() {
         if let Some(name) = stated_name(Role::Export, object.symbol(i)) {
-            let export = read_export(alloc, object, tables, name, left)?;
-            left -= export.space.len();
+            names = bytes_left(names, name.len())?;
+            let export = read_export(alloc, object, tables, name, spaces)?;
+            spaces -= export.space.len();
+            searches = bytes_left(searches, searched_in_vain(object, tables, name))?;
             exports.push(export)?;
         }
     }
@@ -144,6 +151,20 @@ fn space_of<'a>(object: &ObjectView<'a>, tables: &SymbolTables, name: &[u8]) -> 
         Some(symbol) => given_space(object, symbol).unwrap_or(&[]),
         None => &[],
     }
+}
+
+/// Returns how many bytes are searched for the end of a namespace of an export if it has none.
+fn searched_in_vain(object: &ObjectView, tables: &SymbolTables, name: &[u8]) -> usize
+    requires { HasTables tables.now object.now }
+{
+    let Some(symbol) = symbol_of(object, tables, Role::Space, name) else {
+        return 0;
+    };
+    if given_space(object, symbol).is_some() {
+        return 0;
+    }
+    let size = section_contents(object, u32::from(symbol.section)).len();
+    size.saturating_sub(symbol.value as usize)
 }
 
 /// Returns the version of an export, if a symbol gives one.

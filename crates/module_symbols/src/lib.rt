@@ -7,17 +7,23 @@
 //! are read into a list with a table of its names. [`named_bytes`] returns the bytes of such
 //! sections.
 //!
-//! The crate uses `elf_object` for symbols and sections, `km_names` for numbers and strings, and
-//! `name_table` for tables of names.
+//! Names of symbols may share their bytes in a file, so a small file can have far more of them than it
+//! has bytes. Only the names of needs and of exports are copied, and at most 4,096 bytes of any other
+//! are hashed.
+//!
+//! The crate uses `elf_object` for symbols and sections, `km_names` for numbers and strings,
+//! `name_table` for tables of names, and `indexmap` for those of the names that symbols state.
 #![tactic(auto)]
 
 mod contents;
 mod exports;
 mod needs;
 mod role;
+mod stated_names;
 mod tables;
 mod version_list;
 mod versions;
+mod work;
 
 pub use contents::{modinfo_bytes, named_bytes, section_contents};
 pub use exports::{Export, Exports, exports_by, given_space, given_version};

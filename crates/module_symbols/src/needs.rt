@@ -8,6 +8,7 @@ ghost use Rattle.module_symbols.specs.Versions.{version_list};
 use crate::version_list::VersionList;
 use elf_format::{SHN_UNDEF, STB_WEAK};
 use elf_object::{ObjectView, SymbolRef};
+use elf_sections::{NAME_LIMIT, bytes_left};
 use km_names::{List, Name};
 use std::alloc::{AllocError, Global};
 
@@ -27,7 +28,9 @@ pub struct Need {
 /// The needs of a module, in the order of their symbols.
 pub type Needs = List<Need>;
 
-/// Returns the needs, in the order of their symbols.
+/// Returns the needs, in the order of their symbols. Names may share their bytes in the file, so a
+/// small file can ask for any number of them. If together they would have more than `NAME_LIMIT`
+/// bytes, the answer is out of memory.
 pub fn read_needs(alloc: Global, object: &ObjectView) -> Result<Needs, AllocError>
     ensures { IfOk result (λ needs. needs ≡ needs_of object.now) }
 {
@@ -43,9 +46,11 @@ fn needs_by(alloc: Global, object: &ObjectView, versions: &VersionList) -> Resul
     // Most needs have a version, so the list seldom grows.
     let expected = versions.len().min(object.symbol_count() as usize);
     let mut needs = Needs::from_vec(Vec::with_capacity(alloc, expected)?);
+    let mut left = NAME_LIMIT;
     for i in 0..object.symbol_count() {
         let symbol = object.symbol(i);
         if is_need(i, symbol) {
+            left = bytes_left(left, symbol.name.len())?;
             needs.push(read_need(alloc, versions, i, symbol)?)?;
         }
     }

@@ -10,17 +10,18 @@ ghost use Rattle.module_symbols.specs.Exports.{exports_of};
 ghost use Rattle.module_symbols.specs.SymbolTables.{AreTablesFor, AreTablesOf, HasTables};
 
 use crate::role::{Role, stated_name};
+use crate::stated_names::StatedNames;
+use crate::work::check_work;
 use elf_object::{ObjectView, SymbolRef};
-use name_table::NameTable;
 use std::alloc::{AllocError, Global};
 
 /// For each role the table of the names that the symbols of an object state in it.
 #[derive(Drop)]
 pub struct SymbolTables<'a> {
-    pub(crate) exports: NameTable<'a>,
-    pub(crate) versions: NameTable<'a>,
-    pub(crate) spaces: NameTable<'a>,
-    pub(crate) definitions: NameTable<'a>,
+    pub(crate) exports: StatedNames<'a>,
+    pub(crate) versions: StatedNames<'a>,
+    pub(crate) spaces: StatedNames<'a>,
+    pub(crate) definitions: StatedNames<'a>,
 }
 
 impl<'a> SymbolTables<'a> {
@@ -29,10 +30,10 @@ impl<'a> SymbolTables<'a> {
         ensures { AreTablesOf result [] }
     {
         SymbolTables {
-            exports: NameTable::new(alloc),
-            versions: NameTable::new(alloc),
-            spaces: NameTable::new(alloc),
-            definitions: NameTable::new(alloc),
+            exports: StatedNames::new(alloc),
+            versions: StatedNames::new(alloc),
+            spaces: StatedNames::new(alloc),
+            definitions: StatedNames::new(alloc),
         }
     }
 
@@ -54,9 +55,14 @@ impl<'a> SymbolTables<'a> {
     }
 
     /// Returns the tables of an object.
+    ///
+    /// # Errors
+    ///
+    /// Out of memory, also if telling the names apart might take too long.
     fn new(alloc: Global, object: &ObjectView<'a>) -> Result<SymbolTables<'a>, AllocError>
         ensures { IfOk result (λ tables. HasTables tables object.now) }
     {
+        check_work(object)?;
         let mut tables = SymbolTables::empty(alloc);
         for i in 0..object.symbol_count() {
             tables.push(object.symbol(i))?;

@@ -1,9 +1,8 @@
 use Rattle.std.proofs.Common.{sym, inl, inr}
 use Rattle.std.proofs.lemmas.Result.{err_from_is_err_and}
-use Rattle.elf_object.proofs.ObjectLemmas.{place_tests-align, place_tests-ordered, place_tests-rela}
+use Rattle.elf_object.proofs.ObjectLemmas.{place_tests-align, place_tests-overlaps}
+use Rattle.elf_object.proofs.ObjectLemmas.{place_tests-rela}
 use Rattle.elf_object.proofs.places.check_places.Goals as goal
-use Rattle.elf_object.proofs.places.check_places.Goals.{then-not-met+in_ok-read_places}
-use Rattle.elf_object.proofs.places.check_places.Goals.{else-not-met}
 
 pub returns-in_err-check_alignments-clause-fault :
     goal.returns-in_err-check_alignments-clause-fault
@@ -27,10 +26,10 @@ returns-in_err-meet_places-clause-fault c =
 
 pub returns-clause-passed : goal.returns-clause-passed
 returns-clause-passed c =
-    elim c.if-not-met.branch [
-      | then-not-met+in_ok-read_places w ↦ w.in_ok-read_places.ensures.passed
-      | else-not-met w ↦ place_tests-ordered c.args.sections.now.file c.meet_places.new.met.order
-          c.requires.small c.requires.read.table c.requires.read.within c.requires.fit
-          (sym c.in_ok-check_alignments.ensures) c.in_ok-meet_places.ensures.passed
-          c.in_ok-meet_places.ensures.met.order w.if-not-met.false
-    ]
+    rw (place_tests-overlaps c.args.sections.now.file (sym c.in_ok-check_alignments.ensures)
+    c.in_ok-meet_places.ensures.passed) c.check_overlaps.ensures.passed
+
+pub returns-clause-fault : goal.returns-clause-fault
+returns-clause-fault c =
+    rw (place_tests-overlaps c.args.sections.now.file (sym c.in_ok-check_alignments.ensures)
+    c.in_ok-meet_places.ensures.passed) c.check_overlaps.ensures.fault

@@ -5,7 +5,7 @@ use Rattle.module_symbols.specs.Needs.{is_need, need_of}
 use Rattle.module_symbols.specs.Versions.{version_list}
 use Rattle.module_symbols.proofs.ListLemmas.{numbered-failed, numbered-passed}
 use Rattle.module_symbols.proofs.needs.needs_by.Goals as goal
-use Rattle.module_symbols.proofs.needs.needs_by.Goals.{then-is_need+in_ok-read_need+in_ok-push}
+use Rattle.module_symbols.proofs.needs.needs_by.Goals.{then-is_need+in_ok-left+in_ok-read_need+in_ok-push}
 use Rattle.module_symbols.proofs.needs.needs_by.Goals.{else-is_need}
 
 pub loop-i-preserved : goal.loop-i-preserved
@@ -15,7 +15,7 @@ loop-i-preserved c =
     let i = c.loop-i.i in
     let s = owned_symbol c.symbol-symbol.result in
     elim c.if-is_need.branch [
-      | then-is_need+in_ok-read_need+in_ok-push w ↦
+      | then-is_need+in_ok-left+in_ok-read_need+in_ok-push w ↦
           w.needs-is ∙ w.in_ok-push.ensures.ok
           ∙ rw (c.loop-i.invariant, w.in_ok-read_need.ensures)
           (ap (λ l. map (λ p. need_of (version_list c.args.object.now) p.0 p.1)
