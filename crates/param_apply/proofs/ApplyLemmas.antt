@@ -1,44 +1,20 @@
 -- What the parts of an image with its parameters make together.
-use Rattle.std.proofs.Common.{◌≡◌, ◌≤◌, ◌<◌, ◌^◌, ◌∙◌, ℕ, List, [], ◌∷◌, Option, Some, None, refl}
-use Rattle.std.proofs.Common.{sym, ap, subst, arith, length, map}
+use Rattle.std.proofs.Common.{◌≡◌, ◌<◌, ◌∙◌, ℕ, List, [], ◌∷◌, Option, Some, None, refl}
+use Rattle.std.proofs.Common.{sym, ap, subst, length, map}
 use Rattle.std.specs.Prelude.{All}
-use Rattle.std.proofs.lemmas.List.{length-map}
-use Rattle.std.proofs.lemmas.List.FromFn.{length-map-range_with_len}
 use Rattle.elf_object.specs.Object.{FileObject}
 use Rattle.km_names.specs.First.{first}
-use Rattle.km_names.specs.Limit.{file_limit}
 use Rattle.param_apply.specs.declared.fault.ParamFault.{ParamFault}
 use Rattle.param_apply.specs.declared.table.ParamTable.{ParamTable}
 use Rattle.param_apply.specs.Applied.{count_of, finished, named_count, param_fault, piece}
 use Rattle.param_apply.specs.Applied.{with_pieces, words_fault}
-use Rattle.param_apply.specs.Table.{Entry, entries, entry, entry_count, table_fault, table_of}
-use Rattle.param_apply.specs.Words.{Parameter, Setting, parameter, parameters, settings, type_texts}
+use Rattle.param_apply.specs.Table.{table_fault, table_of}
+use Rattle.param_apply.specs.Words.{Parameter, Setting, parameters, settings}
 use Rattle.param_apply.proofs.WordLemmas.{settings-within}
 
 only : (f : Option ParamFault) → first (f ∷ []) ≡ f
 only None = refl
 only (Some fault) = refl
-
--- The parameters, by the entries that were read.
-pub params-are : (o : FileObject) (base : ℕ) (image : List ℕ) (t : ParamTable) (es : List Entry)
-    (params : List Parameter)
-    → t ≡ table_of o → es ≡ entries image base t → params ≡ map (parameter (type_texts o)) es
-    → params ≡ parameters o base image
-unfolding parameters
-params-are o base image t es params is is_e is_p =
-    is_p ∙ ap (map (parameter (type_texts o))) (is_e ∙ ap (entries image base) is)
-
--- There are fewer than 2^32, since no file has so many.
-pub params-few : (o : FileObject) (base : ℕ) (image : List ℕ) (t : ParamTable) (es : List Entry)
-    (params : List Parameter)
-    → es ≡ entries image base t → params ≡ map (parameter (type_texts o)) es → t.size ≤ file_limit
-    → length params < 2 ^ 32
-unfolding entries
-params-few o base image t es params is_e is_p short =
-    let long : length params ≡ entry_count t
-    = ap length is_p ∙ length-map es (parameter (type_texts o)) ∙ ap length is_e
-    ∙ length-map-range_with_len (entry image base t) 0 (entry_count t) in
-    omega (arith, long, short)
 
 pub numbers-within : (params : List Parameter) (ss : List Setting) (options : List ℕ)
     → ss ≡ settings params options → All (λ s. s.number < length params) ss

@@ -4,6 +4,7 @@ pub mod NameLemmas
 pub mod WordLemmas
 pub mod ClaimLemmas
 pub mod SettingLemmas
+pub mod EndLemmas
 pub mod TableLemmas
 pub mod MarkLemmas
 pub mod WrittenLemmas

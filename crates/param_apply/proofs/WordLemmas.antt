@@ -1,13 +1,13 @@
 -- The words of a text of options, from its first piece on.
 use Rattle.std.proofs.Common.{◌≡◌, ℕ, ◌<◌, Bool, true, false, List, [], ◌∷◌, ◌++◌, Option, Some}
 use Rattle.std.proofs.Common.{None, length, cond, eqb, refl, sym, ap, ◌∙◌, arith, append-nil}
-use Rattle.std.proofs.Common.{append_assoc, inl, inr}
+use Rattle.std.proofs.Common.{append_assoc, inl, inr, ◌+◌, get_or, take}
 use Rattle.std.specs.Prelude.{All, filter, take_while, codes, option_map, not}
 use Rattle.std.specs.List.{slice_split, before_first, after_first, position_or_len, filter_map}
 use Rattle.std.specs.List.{cons_option}
 use Rattle.std.specs.Option.{option_to_list}
 use Rattle.std.specs.Str.{bytes_eq}
-use Rattle.std.proofs.lemmas.List.{take_all, drop_all}
+use Rattle.std.proofs.lemmas.List.{take_all, take_more, drop_all}
 use Rattle.std.proofs.lemmas.List.Splits.{slice_split_first, slice_split_none}
 use Rattle.std.proofs.lemmas.List.Sums.{fails_before_first, take_while-cons}
 use Rattle.std.proofs.lemmas.List.Elements.{All-from_get_or, All-cons, All-nil, filter_map-append}
@@ -49,67 +49,72 @@ words-first text = elim (cases_lt (position_or_len is_space text) (length text))
 abbrev goes_on : List ℕ → Bool
 goes_on word = not (bytes_eq word (codes "--"))
 
--- What the words up to `--` state, with a piece before them.
-abbrev stated : List Parameter → List (List ℕ) → List Setting
-stated params ws =
-    filter_map (setting params) (take_while (λ word. not (bytes_eq word (codes "--"))) ws)
+ended : (piece : List ℕ) (ws : List (List ℕ)) → bytes_eq piece (codes "--") ≡ true
+    → take_while goes_on (filter is_text (piece ∷ []) ++ ws) ≡ []
+ended [] ws is = cc
+ended (b ∷ bs) ws is =
+    take_while-cons goes_on (b ∷ bs) ws
+    ∙ ap (λ (t : Bool). cond (not t) ((b ∷ bs) ∷ take_while goes_on ws) []) is
 
-ended : (params : List Parameter) (piece : List ℕ) (ws : List (List ℕ))
-    → bytes_eq piece (codes "--") ≡ true → stated params (filter is_text (piece ∷ []) ++ ws) ≡ []
-ended params [] ws is = cc
-ended params (b ∷ bs) ws is =
-    let none : take_while goes_on ((b ∷ bs) ∷ ws) ≡ []
-    = take_while-cons goes_on (b ∷ bs) ws
-    ∙ ap (λ (t : Bool). cond (not t) ((b ∷ bs) ∷ take_while goes_on ws) []) is in
-    ap (filter_map (setting params)) none
-
-going : (params : List Parameter) (piece : List ℕ) (ws : List (List ℕ))
-    → bytes_eq piece (codes "--") ≡ false
-    → stated params (filter is_text (piece ∷ []) ++ ws)
-    ≡ filter_map (setting params) (filter is_text (piece ∷ [])) ++ stated params ws
-going params [] ws is = refl
-going params (b ∷ bs) ws is =
-    let more : take_while goes_on ((b ∷ bs) ∷ ws) ≡ (b ∷ bs) ∷ take_while goes_on ws
-    = take_while-cons goes_on (b ∷ bs) ws
-    ∙ ap (λ (t : Bool). cond (not t) ((b ∷ bs) ∷ take_while goes_on ws) []) is in
-    ap (filter_map (setting params)) more
-    ∙ filter_map-append (setting params) ((b ∷ bs) ∷ [])
-    (take_while (λ word. not (bytes_eq word (codes "--"))) ws)
+going : (piece : List ℕ) (ws : List (List ℕ)) → bytes_eq piece (codes "--") ≡ false
+    → take_while goes_on (filter is_text (piece ∷ []) ++ ws)
+    ≡ filter is_text (piece ∷ []) ++ take_while goes_on ws
+going [] ws is = refl
+going (b ∷ bs) ws is =
+    take_while-cons goes_on (b ∷ bs) ws
+    ∙ ap (λ (t : Bool). cond (not t) ((b ∷ bs) ∷ take_while goes_on ws) []) is
 
 -- A text that begins with the word `--` states nothing.
-pub settings-ended : (params : List Parameter) (text piece : List ℕ)
-    → piece ≡ before_first is_space text → bytes_eq piece (codes "--") ≡ true
-    → settings params text ≡ []
-unfolding settings
-settings-ended params text piece is end =
-    ap (stated params)
+pub stating-ended : (text piece : List ℕ) → piece ≡ before_first is_space text
+    → bytes_eq piece (codes "--") ≡ true → stating text ≡ []
+stating-ended text piece is end =
+    ap (take_while goes_on)
     (words-first text
     ∙ ap (λ b. filter is_text (b ∷ []) ++ words (after_first is_space text)) (sym is))
-    ∙ ended params piece (words (after_first is_space text)) end
+    ∙ ended piece (words (after_first is_space text)) end
 
--- What was read and what the rest states, a piece later.
-pub setting_taken : (params : List Parameter) (options rest piece after : List ℕ)
-    (list more : List Setting)
-    → list ++ settings params rest ≡ settings params options → piece ≡ before_first is_space rest
+-- The words that were read and those of the rest, a piece later.
+pub stating-taken : (options rest piece after : List ℕ) (list more : List (List ℕ))
+    → list ++ stating rest ≡ stating options → piece ≡ before_first is_space rest
     → after ≡ after_first is_space rest → bytes_eq piece (codes "--") ≡ false
-    → more ≡ filter_map (setting params) (filter is_text (piece ∷ []))
-    → (list ++ more) ++ settings params after ≡ settings params options
-unfolding settings
-setting_taken params options rest piece after list more inv before then on is =
-    let here : settings params rest
-    ≡ filter_map (setting params) (filter is_text (piece ∷ [])) ++ settings params after
+    → more ≡ filter is_text (piece ∷ []) → (list ++ more) ++ stating after ≡ stating options
+stating-taken options rest piece after list more inv before then on is =
+    let here : stating rest ≡ filter is_text (piece ∷ []) ++ stating after
     =
-    ap (stated params)
+    ap (take_while goes_on)
     (words-first rest
     ∙ ap (λ b. filter is_text (b ∷ []) ++ words (after_first is_space rest)) (sym before)
     ∙ ap (λ a. filter is_text (piece ∷ []) ++ words a) (sym then))
-    ∙ going params piece (words after) on in
-    append_assoc list more (settings params after)
-    ∙ ap (λ m. list ++ (m ++ settings params after)) is ∙ ap (λ l. list ++ l) (sym here) ∙ inv
+    ∙ going piece (words after) on in
+    append_assoc list more (stating after)
+    ∙ ap (λ m. list ++ (m ++ stating after)) is ∙ ap (λ l. list ++ l) (sym here) ∙ inv
 
-pub settings-nil : (params : List Parameter) → settings params [] ≡ []
-unfolding settings
-settings-nil params = refl
+pub stating-nil : stating [] ≡ []
+stating-nil = refl
+
+-- A piece between spaces is a word if it has a byte.
+pub piece-empty : (piece : List ℕ) → length piece ≡ 0 → [] ≡ filter is_text (piece ∷ [])
+piece-empty [] empty = refl
+piece-empty (b ∷ bs) empty = absurd (omega (arith, empty))
+
+pub piece-word : (piece : List ℕ) → (length piece ≡ 0 → ⊥)
+    → piece ∷ [] ≡ filter is_text (piece ∷ [])
+piece-word [] some = absurd (some refl)
+piece-word (b ∷ bs) some = refl
+
+-- What is made of the first words, a word later.
+pub taken-none : {X Y : Type 0} (h : X → Option Y) (xs : List X) (i : ℕ) (d : X) → i < length xs
+    → h (get_or xs i d) ≡ None → filter_map h (take i xs) ≡ filter_map h (take (i + 1) xs)
+taken-none h xs i d within is =
+    sym (ap (filter_map h) (take_more xs i d within)
+    ∙ filter_map-append h (take i xs) (get_or xs i d ∷ []) ∙ rw is (append-nil _))
+
+pub taken-some : {X Y : Type 0} (h : X → Option Y) (xs : List X) (i : ℕ) (d : X) (y : Y)
+    → i < length xs → h (get_or xs i d) ≡ Some y
+    → filter_map h (take i xs) ++ y ∷ [] ≡ filter_map h (take (i + 1) xs)
+taken-some h xs i d y within is =
+    sym (ap (filter_map h) (take_more xs i d within)
+    ∙ filter_map-append h (take i xs) (get_or xs i d ∷ []) ∙ rw is refl)
 
 -- Words name parameters that there are.
 within-named : (params : List Parameter) (word : List ℕ) (s : Setting) (o : Option ℕ)
@@ -149,16 +154,3 @@ pub settings-within : (params : List Parameter) (options : List ℕ)
     → All (λ (s : Setting). s.number < length params) (settings params options)
 unfolding settings
 settings-within params options = within-words params (stating options)
-
--- What a piece between spaces states.
-pub piece-empty : (params : List Parameter) (piece : List ℕ) → length piece ≡ 0
-    → [] ≡ filter_map (setting params) (filter is_text (piece ∷ []))
-piece-empty params [] empty = refl
-piece-empty params (b ∷ bs) empty = absurd (omega (arith, empty))
-
-pub piece-states : (params : List Parameter) (piece : List ℕ) (o : Option Setting)
-    → (length piece ≡ 0 → ⊥) → setting params piece ≡ o
-    → option_to_list o ≡ filter_map (setting params) (filter is_text (piece ∷ []))
-piece-states params [] o some is = absurd (some refl)
-piece-states params (b ∷ bs) None some is = rw is refl
-piece-states params (b ∷ bs) (Some s) some is = rw is refl

@@ -4,5 +4,6 @@ pub mod Kinds
 pub mod Words
 pub mod Places
 pub mod Applied
+pub mod Naming
 pub mod Writing
 pub mod FaultText

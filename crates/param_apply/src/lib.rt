@@ -9,10 +9,9 @@
 //!
 //! The crate builds on `image_layout` for the places of sections, on `module_facts` and
 //! `modinfo_fields` for the texts, on `name_table` for names, and on `raw_image` for the copy. It
-//! takes time in proportion to the image, the options and the places of relocations, whatever bytes
-//! these have. Out of memory may be reported at any time. It is also reported if the names of the
-//! entries together have more than [`NAME_LIMIT`](elf_object::NAME_LIMIT) bytes, since they may
-//! share theirs.
+//! takes time in proportion to the image, the options and the places of relocations. Names of
+//! parameters may share their bytes, so none is read further than the longest name in the options:
+//! each entry takes time in proportion to that at most. Out of memory may be reported at any time.
 #![tactic(auto)]
 
 mod apply;
@@ -24,6 +23,7 @@ mod parameter;
 mod setting;
 mod table;
 mod taken;
+mod words;
 mod worked;
 mod written;
 

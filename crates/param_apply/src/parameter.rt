@@ -2,23 +2,21 @@
 
 ghost use Rattle.std.specs.Prelude.{◌≡◌, ◌+◌, ◌-◌, ◌*◌, ◌<◌, ◌≤◌, ◌^◌, ◌⊎◌, ℕ, List, [], ◌∷◌, ◌++◌};
 ghost use Rattle.std.specs.Prelude.{Option, None, Some, length, map, slice_get, option_and_then};
-ghost use Rattle.std.specs.Prelude.{IfErr, IfOk, OnOk};
+ghost use Rattle.std.specs.Prelude.{IfErr, IfNone, IfOk, IfSome, OnOk};
 ghost use Rattle.name_table.specs.NameTable.{IsTableOf, place_of};
-ghost use Rattle.elf_sections.specs.declared.strings.TheConstants.{NAME_LIMIT};
 ghost use Rattle.km_names.specs.Limit.{file_limit};
 ghost use Rattle.km_names.specs.Path.{underscored};
 ghost use Rattle.module_symbols.specs.Contents.{modinfo_bytes};
 ghost use Rattle.param_apply.specs.declared.fault.ParamFault.TheVariants.{Memory};
 ghost use Rattle.param_apply.specs.Kinds.{kind_of};
-ghost use Rattle.param_apply.specs.Table.{entries, entry, entry_fault, table_fault, table_of};
-ghost use Rattle.param_apply.specs.Words.{kind_named, number_named, parameter, parameters};
+ghost use Rattle.param_apply.specs.Table.{entry_count, entry_fault, table_fault, table_of};
 ghost use Rattle.modinfo_fields.specs.Fields.{parameter_of, description_of};
-ghost use Rattle.param_apply.specs.Words.{type_texts};
+ghost use Rattle.param_apply.specs.Words.{kind_named, parameters, type_texts};
 
 use crate::ParamFault;
 use crate::kind::{ParamType, kind_of};
-use crate::table::{ENTRY_SIZE, ParamTable, entry_at};
-use elf_object::{NAME_LIMIT, Object};
+use crate::table::{ENTRY_SIZE, ParamTable, check_table, entry_at, name_place, short_string};
+use elf_object::Object;
 use km_names::{Blob, Texts, split_at_byte, underscored};
 use modinfo_fields::field_values;
 use name_table::OwnedNameTable;
@@ -42,15 +40,22 @@ impl<'a> Model for ParamRef<'a> {
     ghost view = { λ p. record { name = p.name.now; at = p.at; kind = p.kind } };
 }
 
-/// The parameters of a module, with a table of their names.
+/// The parameters of a module: their table in an image at a base, and their types. Each is read
+/// from there when it is asked for, since the names of a table may share their bytes.
 #[derive(Drop)]
 pub(crate) struct Parameters<'a> {
-    pub(crate) list: Vec<ParamRef<'a>>,
-    names: OwnedNameTable,
-    ghost named: { IsTableOf names (map (λ p. Some (underscored p.name)) list.items) },
+    pub(crate) image: &'a [u8],
+    pub(crate) base: u64,
+    pub(crate) table: ParamTable,
+    pub(crate) types: Types,
+    ghost within: { table.at + table.size ≤ length image.now },
+    ghost short: { table.size ≤ file_limit },
+    ghost named: { (k : ℕ) → k < entry_count table → entry_fault image.now base table k ≡ None },
 }
 
 impl<'a> Parameters<'a> {
+    ghost use Rattle.param_apply.specs.Naming.{parameters_of};
+
     /// Returns the parameters of an object, by its table in an image at a base.
     ///
     /// # Errors
@@ -66,30 +71,61 @@ impl<'a> Parameters<'a> {
         requires table { table ≡ table_of object.now }
         requires within { table.at + table.size ≤ length image.now }
         requires short { table.size ≤ file_limit }
-        ensures params { IfOk result (λ p. p.list.items ≡ parameters object.now base image.now) }
-        ensures few { IfOk result (λ p. length p.list.items < 2 ^ 32) }
+        ensures params { IfOk result (λ p. parameters_of p ≡ parameters object.now base image.now) }
         ensures passed { OnOk result (table_fault image.now base table ≡ None) }
         ensures fault { IfErr result
             (λ e. (e ≡ Memory) ⊎ (table_fault image.now base table ≡ Some e)) }
     {
-        let list = params_in(alloc, object, table, base, image)?;
-        let names = param_names(alloc, &list)?;
-        Ok(Parameters { list, names })
+        check_table(image, base, table)?;
+        let types = Types::new(alloc, object)?;
+        Ok(Parameters {
+            image,
+            base,
+            table,
+            types,
+        })
     }
 
-    /// Returns the number of the parameter of a name, the first of several.
-    pub(crate) fn number_named(&self, alloc: Global, name: &[u8]) -> Result<Option<u32>, AllocError>
-        ensures { IfOk result (λ number. number ≡ number_named self.now.list.items name.now) }
+    /// Returns the number of parameters.
+    pub(crate) fn count(&self) -> usize
+        ensures count { result ≡ length (parameters_of self.now) }
+        ensures few { result < 2 ^ 31 }
     {
-        let number = place_named(alloc, &self.names, name)?;
-        Ok(number)
+        self.table.size as usize / ENTRY_SIZE
+    }
+
+    /// Returns the parameter of a number.
+    pub(crate) fn get(&self, alloc: Global, number: u32) -> Result<ParamRef<'a>, AllocError>
+        requires { number < length (parameters_of self.now) }
+        ensures { IfOk result (λ p. slice_get (parameters_of self.now) number ≡ Some p) }
+    {
+        let entry = entry_at(self.image, self.base, self.table, number as usize);
+        let kind = self.types.kind_named(alloc, entry.name)?;
+        Ok(ParamRef {
+            name: entry.name,
+            at: entry.at,
+            kind,
+        })
+    }
+
+    /// Returns the name of the parameter `k`, unless it has more than `longest` bytes. At most one
+    /// byte past those is read.
+    pub(crate) fn short_name(&self, k: usize, longest: usize) -> Option<&'a [u8]>
+        requires { k < length (parameters_of self.now) }
+        ensures name { IfSome result
+            (λ name. IfSome (slice_get (parameters_of self.now) k) (λ p. p.name ≡ name.now)) }
+        ensures longer { IfNone result
+            (IfSome (slice_get (parameters_of self.now) k) (λ p. longest < length p.name)) }
+    {
+        let place = name_place(self.image, self.base, self.table, k);
+        short_string(self.image, place, longest)
     }
 }
 
 /// The texts that state the types of parameters, with a table of the names in them.
 #[derive(Drop)]
-struct Types {
-    texts: Texts,
+pub(crate) struct Types {
+    pub(crate) texts: Texts,
     names: OwnedNameTable,
     ghost named: { IsTableOf names (map (λ text. Some (underscored (parameter_of text))) texts) },
 }
@@ -125,46 +161,8 @@ impl Types {
     }
 }
 
-/// Returns the parameters of an object, by its table in an image at a base.
-///
-/// # Errors
-///
-/// `BadParamTable` if the table can't be read, or `Memory`.
-fn params_in<'a>(
-    alloc: Global,
-    object: &Object,
-    table: ParamTable,
-    base: u64,
-    image: &'a [u8],
-) -> Result<Vec<ParamRef<'a>>, ParamFault>
-    requires within { table.at + table.size ≤ length image.now }
-    requires short { table.size ≤ file_limit }
-    ensures params { IfOk result
-        (λ v. v.items ≡ map (parameter (type_texts object.now)) (entries image.now base table)) }
-    ensures passed { OnOk result (table_fault image.now base table ≡ None) }
-    ensures fault { IfErr result (λ e. (e ≡ Memory) ⊎ (table_fault image.now base table ≡ Some e)) }
-{
-    let types = Types::new(alloc, object)?;
-    params_of(alloc, &types, table, base, image)
-}
-
-/// Returns the table of the names of parameters.
-fn param_names(alloc: Global, list: &[ParamRef]) -> Result<OwnedNameTable, AllocError>
-    ensures { IfOk result (λ t. IsTableOf t (map (λ p. Some (underscored p.name)) list.now)) }
-{
-    // No file has so many parameters.
-    if u32::MAX as usize <= list.len() {
-        return Err(AllocError);
-    }
-    let mut names = OwnedNameTable::new(alloc);
-    for param in list {
-        push_name(alloc, &mut names, param.name)?;
-    }
-    Ok(names)
-}
-
 /// Returns the place that a table has for a name, with each `-` replaced by `_`.
-fn place_named(
+pub(crate) fn place_named(
     alloc: Global,
     table: &OwnedNameTable,
     name: &[u8],
@@ -173,43 +171,6 @@ fn place_named(
 {
     let name = underscored(alloc, name)?;
     Ok(table.place(name.as_bytes()))
-}
-
-/// Returns the parameters of a table in an image at a base, by their types.
-///
-/// # Errors
-///
-/// `BadParamTable` at the first entry whose name isn't in the image, or at the last one if it isn't
-/// whole. Or `Memory`.
-fn params_of<'a>(
-    alloc: Global,
-    types: &Types,
-    table: ParamTable,
-    base: u64,
-    image: &'a [u8],
-) -> Result<Vec<ParamRef<'a>>, ParamFault>
-    requires within { table.at + table.size ≤ length image.now }
-    requires short { table.size ≤ file_limit }
-    ensures params { IfOk result
-        (λ v. v.items ≡ map (parameter types.now.texts) (entries image.now base table)) }
-    ensures passed { OnOk result (table_fault image.now base table ≡ None) }
-    ensures fault { IfErr result (λ e. (e ≡ Memory) ⊎ (table_fault image.now base table ≡ Some e)) }
-{
-    let size = table.size as usize;
-    let count = size / ENTRY_SIZE;
-    let mut params = Vec::with_capacity(alloc, count)?;
-    let mut left = NAME_LIMIT;
-    for k in 0..count {
-        let param = param_at(alloc, types, image, base, table, k, left)?;
-        left -= param.name.len();
-        params.push(param)?;
-    }
-    if size % ENTRY_SIZE != 0 {
-        return Err(ParamFault::BadParamTable {
-            entry: count as u32,
-        });
-    }
-    Ok(params)
 }
 
 /// Returns the bytes of the section `.modinfo`.
@@ -241,7 +202,11 @@ fn text_names(alloc: Global, texts: &[Blob]) -> Result<OwnedNameTable, AllocErro
 }
 
 /// Adds a name to a table, with each `-` replaced by `_`.
-fn push_name(alloc: Global, names: &mut OwnedNameTable, name: &[u8]) -> Result<(), AllocError>
+pub(crate) fn push_name(
+    alloc: Global,
+    names: &mut OwnedNameTable,
+    name: &[u8],
+) -> Result<(), AllocError>
     requires { names.old.count < 2 ^ 32 - 1 }
     ensures table { OnOk result ((items : List (Option (List ℕ))) → IsTableOf names.old items
         → IsTableOf names.new (items ++ Some (underscored name.now) ∷ [])) }
@@ -249,39 +214,4 @@ fn push_name(alloc: Global, names: &mut OwnedNameTable, name: &[u8]) -> Result<(
 {
     let name = underscored(alloc, name)?;
     names.push(alloc, Some(name.as_bytes()))
-}
-
-/// Returns the parameter of the entry `k` of a table in an image at a base. Names may have `left`
-/// bytes more.
-///
-/// # Errors
-///
-/// `BadParamTable` if its name isn't in the image, or `Memory`.
-fn param_at<'a>(
-    alloc: Global,
-    types: &Types,
-    image: &'a [u8],
-    base: u64,
-    table: ParamTable,
-    k: usize,
-    left: usize,
-) -> Result<ParamRef<'a>, ParamFault>
-    requires left { left ≤ NAME_LIMIT }
-    requires within { table.at + table.size ≤ length image.now }
-    requires entry { 40 * k + 40 ≤ table.size }
-    requires short { table.size ≤ file_limit }
-    ensures param { IfOk result
-        (λ p. p ≡ parameter types.now.texts (entry image.now base table k)) }
-    ensures names { IfOk result (λ p. length p.name ≤ left) }
-    ensures passed { OnOk result (entry_fault image.now base table k ≡ None) }
-    ensures fault { IfErr result
-        (λ e. (e ≡ Memory) ⊎ (entry_fault image.now base table k ≡ Some e)) }
-{
-    let entry = entry_at(image, base, table, k, left)?;
-    let kind = types.kind_named(alloc, entry.name)?;
-    Ok(ParamRef {
-        name: entry.name,
-        at: entry.at,
-        kind,
-    })
 }

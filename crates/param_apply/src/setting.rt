@@ -1,13 +1,16 @@
 // The words that name parameters.
 
-ghost use Rattle.std.specs.Prelude.{◌≡◌, [], ◌∷◌, filter, IfOk, option_copied, option_map};
+ghost use Rattle.std.specs.Prelude.{◌≡◌, ℕ, List, true, map, IfOk, option_copied, option_map};
 ghost use Rattle.std.specs.List.{filter_map};
-ghost use Rattle.std.specs.Option.{option_to_list};
-ghost use Rattle.modinfo_fields.specs.Fields.{is_text};
-ghost use Rattle.param_apply.specs.Words.{setting, settings as settings_spec, word_text};
+ghost use Rattle.name_table.specs.NameTable.{IsTableOf};
+ghost use Rattle.param_apply.specs.Naming.{is_word_name, kept_name, parameters_of};
+ghost use Rattle.param_apply.specs.Words.{Parameter, setting, settings as settings_spec, word_name};
+ghost use Rattle.param_apply.specs.Words.{word_text};
 
-use crate::parameter::Parameters;
+use crate::parameter::{Parameters, place_named};
+use crate::words::{WordNames, WordRef, named_params, stated_words};
 use km_names::split_at_byte;
+use name_table::OwnedNameTable;
 use std::alloc::{AllocError, Global};
 use std::marker::Model;
 
@@ -34,50 +37,45 @@ pub(crate) fn settings<'a>(
     params: &Parameters,
     options: &'a [u8],
 ) -> Result<Vec<SettingRef<'a>>, AllocError>
-    ensures { IfOk result (λ v. v.items ≡ settings_spec params.now.list.items options.now) }
+    ensures { IfOk result (λ v. v.items ≡ settings_spec (parameters_of params.now) options.now) }
 {
-    let mut settings = Vec::new(alloc);
-    let mut rest = options;
-    while !rest.is_empty() {
-        let (piece, after) = split_at_byte(rest, b' ');
-        if piece == b"--".as_slice() {
-            return Ok(settings);
-        }
-        if let Some(setting) = setting_of(alloc, params, piece)? {
-            settings.push(setting)?;
-        }
-        rest = after;
-    }
-    Ok(settings)
+    let words = stated_words(alloc, options)?;
+    let names = WordNames::new(alloc, &words)?;
+    let table = named_params(alloc, params, &names)?;
+    settings_of(alloc, &table, &words)
 }
 
-/// Returns what a piece between spaces states, if it is a word that names a parameter.
-fn setting_of<'a>(
+/// Returns the settings of words, by the table of the parameters that they name.
+fn settings_of<'a>(
     alloc: Global,
-    params: &Parameters,
-    piece: &'a [u8],
-) -> Result<Option<SettingRef<'a>>, AllocError>
-    ensures { IfOk result
-        (λ s. option_to_list s
-        ≡ filter_map (setting params.now.list.items) (filter is_text (piece.now ∷ []))) }
+    table: &OwnedNameTable,
+    words: &[WordRef<'a>],
+) -> Result<Vec<SettingRef<'a>>, AllocError>
+    ensures { IfOk result (λ v. (params : List Parameter)
+        → IsTableOf table.now (map (kept_name words.now) params)
+        → v.items ≡ filter_map (setting params) words.now) }
 {
-    if piece.is_empty() {
-        return Ok(None);
+    let mut settings = Vec::new(alloc);
+    for word in words {
+        if let Some(setting) = word_setting(alloc, table, word.text)? {
+            settings.push(setting)?;
+        }
     }
-    let setting = word_setting(alloc, params, piece)?;
-    Ok(setting)
+    Ok(settings)
 }
 
 /// Returns what a word states, if it names a parameter.
 fn word_setting<'a>(
     alloc: Global,
-    params: &Parameters,
+    table: &OwnedNameTable,
     word: &'a [u8],
 ) -> Result<Option<SettingRef<'a>>, AllocError>
-    ensures { IfOk result (λ s. s ≡ setting params.now.list.items word.now) }
+    ensures { IfOk result (λ s. (words : List (List ℕ)) (params : List Parameter)
+        → IsTableOf table.now (map (kept_name words) params)
+        → is_word_name words (word_name word.now) ≡ true → s ≡ setting params word.now) }
 {
     let (name, _) = split_at_byte(word, b'=');
-    let number = params.number_named(alloc, name)?;
+    let number = place_named(alloc, table, name)?;
     Ok(setting_at(number, word))
 }
 

@@ -1,20 +1,18 @@
 // The table of a module's parameters, in its image.
 
-ghost use Rattle.std.specs.Prelude.{◌≡◌, ◌+◌, ◌*◌, ◌<◌, ◌≤◌, ◌^◌, ◌⊎◌, true, length, None, Some};
-ghost use Rattle.std.specs.Prelude.{IfErr, IfOk, IfSome, OnOk, option_copied, slice_get};
-ghost use Rattle.elf_sections.specs.declared.strings.TheConstants.{NAME_LIMIT};
+ghost use Rattle.std.specs.Prelude.{◌≡◌, ℕ, ◌+◌, ◌*◌, ◌<◌, ◌≤◌, ◌^◌, length, None, Some, is_none};
+ghost use Rattle.std.specs.Prelude.{nat_le, IfErr, IfNone, IfSome, OnOk, slice_get};
 ghost use Rattle.image_layout.specs.Offsets.{image_size, offset};
 ghost use Rattle.km_names.specs.Limit.{file_limit};
 ghost use Rattle.km_names.specs.Strings.{string_at};
-ghost use Rattle.param_apply.specs.declared.fault.ParamFault.TheVariants.{Memory};
-ghost use Rattle.param_apply.specs.Table.{entry as entry_spec, entry_fault, place_of, table_at};
-ghost use Rattle.param_apply.specs.Table.{table_of};
+ghost use Rattle.param_apply.specs.Table.{entry as entry_spec, entry_count, entry_fault, place_of};
+ghost use Rattle.param_apply.specs.Table.{table_at, table_fault, table_of};
 
 use crate::ParamFault;
-use elf_object::{NAME_LIMIT, Object};
+use elf_object::Object;
 use image_layout::section_at;
-use km_names::{le_u64_at, string_at};
-use std::alloc::{AllocError, Global};
+use km_names::{first_string, le_u64_at, string_at};
+use memchr::memrchr;
 use std::marker::Model;
 
 /// The size of an entry in bytes.
@@ -60,36 +58,81 @@ impl<'a> Model for EntryRef<'a> {
     ghost view = { λ e. record { name = e.name.now; at = e.at } };
 }
 
-/// Returns the entry `k` of a table in an image at a base. Names may have `left` bytes more.
+/// Tests a table in an image at a base. Names may share their bytes, so none is read.
 ///
 /// # Errors
 ///
-/// `BadParamTable` if its name isn't in the image, or `Memory`.
-pub(crate) fn entry_at(
-    image: &[u8],
-    base: u64,
-    table: ParamTable,
-    k: usize,
-    left: usize,
-) -> Result<EntryRef<'_>, ParamFault>
-    requires left { left ≤ NAME_LIMIT }
+/// `BadParamTable` at the first entry whose name isn't in the image, or at the last one if it isn't
+/// whole.
+pub(crate) fn check_table(image: &[u8], base: u64, table: ParamTable) -> Result<(), ParamFault>
+    requires within { table.at + table.size ≤ length image.now }
+    requires short { table.size ≤ file_limit }
+    ensures passed { OnOk result (table_fault image.now base table ≡ None) }
+    ensures named { OnOk result
+        ((k : ℕ) → k < entry_count table → entry_fault image.now base table k ≡ None) }
+    ensures fault { IfErr result (λ e. table_fault image.now base table ≡ Some e) }
+{
+    let strings = strings_size(image) as u64;
+    let size = table.size as usize;
+    let count = size / ENTRY_SIZE;
+    for k in 0..count {
+        if strings <= name_place(image, base, table, k) {
+            return Err(ParamFault::BadParamTable { entry: k as u32 });
+        }
+    }
+    if size % ENTRY_SIZE != 0 {
+        return Err(ParamFault::BadParamTable {
+            entry: count as u32,
+        });
+    }
+    Ok(())
+}
+
+/// Returns the entry `k` of a table in an image at a base.
+pub(crate) fn entry_at(image: &[u8], base: u64, table: ParamTable, k: usize) -> EntryRef<'_>
     requires within { table.at + table.size ≤ length image.now }
     requires entry { 40 * k + 40 ≤ table.size }
     requires short { table.size ≤ file_limit }
-    ensures entry { IfOk result (λ e. e ≡ entry_spec image.now base table k) }
-    ensures names { IfOk result (λ e. length e.name ≤ left) }
-    ensures passed { OnOk result (entry_fault image.now base table k ≡ None) }
-    ensures fault { IfErr result
-        (λ e. (e ≡ Memory) ⊎ (entry_fault image.now base table k ≡ Some e)) }
+    ensures { result ≡ entry_spec image.now base table k }
 {
-    let at = table.at as usize + ENTRY_SIZE * k;
-    let Some(name) = string_within(image, place_of(image, base, at), left)? else {
-        return Err(ParamFault::BadParamTable { entry: k as u32 });
-    };
-    Ok(EntryRef {
-        name,
-        at: place_of(image, base, at + VALUE_FIELD),
-    })
+    let place = name_place(image, base, table, k);
+    let at = place_of(
+        image,
+        base,
+        table.at as usize + ENTRY_SIZE * k + VALUE_FIELD,
+    );
+    match string_at(image, place as usize) {
+        Some(name) => EntryRef { name, at },
+        None => EntryRef { name: &[], at },
+    }
+}
+
+/// Returns the place in an image at a base that the entry `k` of a table has for its name.
+pub(crate) fn name_place(image: &[u8], base: u64, table: ParamTable, k: usize) -> u64
+    requires within { table.at + table.size ≤ length image.now }
+    requires entry { 40 * k + 40 ≤ table.size }
+    requires short { table.size ≤ file_limit }
+    ensures { result ≡ place_of image.now base (table.at + 40 * k) }
+{
+    place_of(image, base, table.at as usize + ENTRY_SIZE * k)
+}
+
+/// Returns the string at a place of an image, unless it has more than `longest` bytes. At most one
+/// byte past those is read.
+pub(crate) fn short_string(image: &[u8], at: u64, longest: usize) -> Option<&[u8]>
+    ensures string { IfSome result (λ string. string_at image.now at ≡ Some string.now) }
+    ensures longer { IfNone result
+        (IfSome (string_at image.now at) (λ string. longest < length string)) }
+{
+    if image.len() as u64 <= at {
+        return None;
+    }
+    let rest = &image[at as usize..];
+    if longest < rest.len() {
+        first_string(&rest[..longest + 1])
+    } else {
+        first_string(rest)
+    }
 }
 
 /// Returns the section `i` as a table, which is empty if the section isn't in memory.
@@ -110,26 +153,13 @@ fn table_at(object: &Object, i: u32) -> ParamTable
     }
 }
 
-/// Returns the string at a place of an image. Strings may have `left` bytes more, and at most one
-/// byte past those is read.
-///
-/// # Errors
-///
-/// The string is longer than `left` bytes.
-fn string_within(image: &[u8], at: u64, left: usize) -> Result<Option<&[u8]>, AllocError>
-    requires { left ≤ NAME_LIMIT }
-    ensures string { IfOk result (λ string. option_copied string ≡ string_at image.now at) }
-    ensures within { IfOk result (λ string. IfSome string (λ name. length name.now ≤ left)) }
+/// Returns how many bytes of an image its strings take: those up to its last NUL.
+fn strings_size(image: &[u8]) -> usize
+    ensures { (at : ℕ) → is_none (string_at image.now at) ≡ nat_le result at }
 {
-    if image.len() as u64 <= at {
-        return Ok(None);
-    }
-    let at = at as usize;
-    let end = (at + left + 1).min(image.len());
-    match string_at(&image[..end], at) {
-        Some(name) => Ok(Some(name)),
-        None if end < image.len() => Err(AllocError),
-        None => Ok(None),
+    match memrchr(0, image) {
+        Some(last) => last + 1,
+        None => 0,
     }
 }
 

@@ -8,12 +8,13 @@ ghost use Rattle.raw_image.specs.Bytes.{with_bytes};
 ghost use Rattle.param_apply.specs.declared.fault.ParamFault.TheVariants.{Memory};
 ghost use Rattle.param_apply.specs.Applied.{named_count, piece, setting_fault, with_pieces};
 ghost use Rattle.param_apply.specs.Applied.{words_fault};
+ghost use Rattle.param_apply.specs.Naming.{parameters_of};
 ghost use Rattle.param_apply.specs.Table.{table_of};
 ghost use Rattle.param_apply.specs.Words.{Setting};
 ghost use Rattle.param_apply.specs.Writing.{AreClaims};
 
 use crate::claims::{Claims, value_of};
-use crate::parameter::ParamRef;
+use crate::parameter::Parameters;
 use crate::setting::SettingRef;
 use crate::table::ParamTable;
 use crate::taken::reserved;
@@ -32,25 +33,24 @@ pub(crate) fn written(
     object: &Object,
     table: ParamTable,
     image: &[u8],
-    params: &[ParamRef],
+    params: &Parameters,
     settings: &[SettingRef],
 ) -> Result<Params, ParamFault>
     requires fits { image_size object.now.sections < 2 ^ 63 }
     requires table { table ≡ table_of object.now }
-    requires few { length params.now < 2 ^ 32 }
-    requires numbers { All (λ s. s.number < length params.now) settings.now }
+    requires numbers { All (λ s. s.number < length (parameters_of params.now)) settings.now }
     ensures image { IfOk result
-        (λ p. p.image ≡ with_pieces image.now (map (piece params.now) settings.now)) }
-    ensures count { IfOk result (λ p. p.count ≡ named_count params.now settings.now) }
+        (λ p. p.image ≡ with_pieces image.now (map (piece (parameters_of params.now)) settings.now)) }
+    ensures count { IfOk result (λ p. p.count ≡ named_count (parameters_of params.now) settings.now) }
     ensures passed { OnOk result
-        (words_fault object.now params.now (length image.now) settings.now ≡ None) }
+        (words_fault object.now (parameters_of params.now) (length image.now) settings.now ≡ None) }
     ensures fault { IfErr result
         (λ e. (e ≡ Memory)
-        ⊎ (words_fault object.now params.now (length image.now) settings.now ≡ Some e)) }
+        ⊎ (words_fault object.now (parameters_of params.now) (length image.now) settings.now ≡ Some e)) }
 {
     let mut copy = copied(alloc, image)?;
     let taken = reserved(alloc, object, table, image.len())?;
-    let mut claims = Claims::new(alloc, taken, params.len())?;
+    let mut claims = Claims::new(alloc, taken, params.count())?;
     for setting in settings {
         write(alloc, &mut copy, &mut claims, params, setting)?;
     }
@@ -78,34 +78,34 @@ fn write(
     alloc: Global,
     image: &mut Image,
     claims: &mut Claims,
-    params: &[ParamRef],
+    params: &Parameters,
     setting: &SettingRef,
 ) -> Result<(), ParamFault>
-    requires number { setting.now.number < length params.now }
-    requires named { length claims.old.named.items ≡ length params.now }
+    requires number { setting.now.number < length (parameters_of params.now) }
+    requires named { length claims.old.named.items ≡ length (parameters_of params.now) }
     requires taken { length claims.old.taken.items ≡ length image.old }
     ensures same { OnOk result (length claims.new.taken.items ≡ length claims.old.taken.items) }
     ensures count { OnOk result (length claims.new.named.items ≡ length claims.old.named.items) }
     ensures bytes { OnOk result
         (image.new
-        ≡ with_bytes image.old (piece params.now setting.now).at
-        (piece params.now setting.now).bytes) }
+        ≡ with_bytes image.old (piece (parameters_of params.now) setting.now).at
+        (piece (parameters_of params.now) setting.now).bytes) }
     ensures inside { OnOk result
-        ((piece params.now setting.now).at + length (piece params.now setting.now).bytes
+        ((piece (parameters_of params.now) setting.now).at + length (piece (parameters_of params.now) setting.now).bytes
         ≤ length image.old) }
     ensures claims { OnOk result ((o : FileObject) (done : List Setting)
-        → AreClaims claims.old o params.now done
-        → AreClaims claims.new o params.now (done ++ setting.now ∷ [])) }
+        → AreClaims claims.old o (parameters_of params.now) done
+        → AreClaims claims.new o (parameters_of params.now) (done ++ setting.now ∷ [])) }
     ensures passed { OnOk result ((o : FileObject) (done : List Setting)
-        → AreClaims claims.old o params.now done
-        → setting_fault o params.now (length image.old) done setting.now ≡ None) }
+        → AreClaims claims.old o (parameters_of params.now) done
+        → setting_fault o (parameters_of params.now) (length image.old) done setting.now ≡ None) }
     ensures fault { IfErr result (λ e. (e ≡ Memory) ⊎ ((o : FileObject) (done : List Setting)
-        → AreClaims claims.old o params.now done
-        → setting_fault o params.now (length image.old) done setting.now ≡ Some e)) }
+        → AreClaims claims.old o (parameters_of params.now) done
+        → setting_fault o (parameters_of params.now) (length image.old) done setting.now ≡ Some e)) }
 {
-    let param = &params[setting.number as usize];
-    let value = value_of(alloc, param, setting)?;
-    claims.claim(alloc, param, setting.number, value.width)?;
+    let param = params.get(alloc, setting.number)?;
+    let value = value_of(alloc, &param, setting)?;
+    claims.claim(alloc, &param, setting.number, value.width)?;
     let bytes = value.number.to_le_bytes();
     image.copy_in(param.at as usize, &bytes[..value.width]);
     Ok(())

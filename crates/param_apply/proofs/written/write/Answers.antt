@@ -1,18 +1,17 @@
-use Rattle.std.proofs.Common.{◌≡◌, ◌≤◌, ◌<◌, ◌∙◌, ℕ, Bool, List, Some, true, false, rules, inl, inr}
-use Rattle.std.proofs.Common.{sym, ap, arith, length, take, get_or}
+use Rattle.std.proofs.Common.{◌≡◌, ◌≤◌, ◌∙◌, ℕ, Bool, List, Some, true, false, inl, inr}
+use Rattle.std.proofs.Common.{sym, ap, arith, length, take}
 use Rattle.std.specs.Prelude.{slice_get}
 use Rattle.std.specs.Int.{w64, to_le_bytes}
-use Rattle.std.proofs.lemmas.Grind.{common_steps}
 use Rattle.std.proofs.lemmas.List.{length-take}
 use Rattle.std.proofs.lemmas.Result.{err_from_is_err_and}
 use Rattle.elf_object.specs.Object.{FileObject}
 use Rattle.raw_image.specs.Bytes.{with_bytes}
 use Rattle.param_apply.specs.Applied.{piece}
+use Rattle.param_apply.specs.Naming.{parameters_of}
 use Rattle.param_apply.specs.Places.{is_misplaced}
 use Rattle.param_apply.specs.Words.{Parameter, Setting}
 use Rattle.param_apply.proofs.SettingLemmas.{piece-at, piece-bytes, setting-passed, setting-place}
 use Rattle.param_apply.proofs.SettingLemmas.{setting-value, value-bytes, value-passed, value-width}
-use Rattle.param_apply.proofs.WrittenLemmas.{item-read}
 use Rattle.param_apply.proofs.written.write.Goals as goal
 
 misplaced-as : (o : FileObject) (params : List Parameter) (len len2 : ℕ) (done : List Setting)
@@ -25,30 +24,16 @@ put-as : (image new : List ℕ) (at at2 : ℕ) (bytes bytes2 : List ℕ) → new
     → at ≡ at2 → bytes ≡ bytes2 → new ≡ with_bytes image at2 bytes2
 put-as image new at at2 bytes bytes2 is e f = rw (← e, ← f) is
 
-named-at : (params : List Parameter) (k number : ℕ) (p : Parameter) → number < length params
-    → k ≡ number → p ≡ get_or params k p → slice_get params number ≡ Some p
-named-at params k number p within is read =
-    ap (slice_get params) (sym is) ∙ item-read params k p (omega arith) read
-
-pub offset_bounds-params-setting-inside : goal.offset_bounds-params-setting-inside
-offset_bounds-params-setting-inside c =
-    let number : c.setting.inside.number ≡ c.args.setting.now.number
-    = ap (λ (s : Setting). s.number) c.setting.view_is in
-    first_of (omega (arith, c.requires.number), grind (arith, common_steps), search rules)
-
-pub bounds-params-setting-inside : goal.bounds-params-setting-inside
-bounds-params-setting-inside c =
-    omega (arith, c.requires.number, ap (λ (s : Setting). s.number) c.setting.view_is)
-
 pub returns-in_err-value-clause-fault : goal.returns-in_err-value-clause-fault
 returns-in_err-value-clause-fault c =
-    let params = c.args.params.now in
+    let params = parameters_of c.args.params.now in
     let s = c.args.setting.now in
-    let q = c.index-params-setting.result in
+    let q = c.in_ok-param.param in
     let named : slice_get params s.number ≡ Some q
-    = named-at params c.setting.inside.number s.number q c.requires.number
-    (ap (λ (s : Setting). s.number) c.setting.view_is) c.index-params-setting.is in
-    let p = err_from_is_err_and c.from_residual.result c.from_residual.ensures.1 in
+    = ap (slice_get params) (sym (ap (λ (s : Setting). s.number) c.setting.view_is))
+    ∙ c.in_ok-param.ensures in
+    let p = err_from_is_err_and c.from_residual-in_err-value.result
+    c.from_residual-in_err-value.ensures.1 in
     rw (p.1, p.2)
     (elim c.in_err-value.ensures.fault [
       | inl memory ↦ inl memory
@@ -70,15 +55,14 @@ claim-requires-clause-width c = c.in_ok-value.ensures.small
 
 pub returns-in_err-claim-clause-fault : goal.returns-in_err-claim-clause-fault
 returns-in_err-claim-clause-fault c =
-    let params = c.args.params.now in
+    let params = parameters_of c.args.params.now in
     let s = c.args.setting.now in
-    let q = c.index-params-setting.result in
+    let q = c.in_ok-param.param in
     let v = c.in_ok-value.value in
     let number : c.setting.inside.number ≡ s.number
     = ap (λ (s : Setting). s.number) c.setting.view_is in
     let named : slice_get params s.number ≡ Some q
-    = named-at params c.setting.inside.number s.number q c.requires.number number
-    c.index-params-setting.is in
+    = ap (slice_get params) (sym number) ∙ c.in_ok-param.ensures in
     let p
     = err_from_is_err_and c.from_residual-in_err-claim.result
     c.from_residual-in_err-claim.ensures.1 in
@@ -98,7 +82,7 @@ returns-in_err-claim-clause-fault c =
 
 pub copy_in-requires : goal.copy_in-requires
 copy_in-requires c =
-    let place : c.param.inside.at ≡ c.index-params-setting.result.at
+    let place : c.param.inside.at ≡ c.in_ok-param.param.at
     = ap (λ (p : Parameter). p.at) c.param.view_is in
     omega (
       arith,
@@ -116,13 +100,13 @@ returns-clause-count c = c.in_ok-claim.ensures.count
 
 pub returns-clause-bytes : goal.returns-clause-bytes
 returns-clause-bytes c =
-    let params = c.args.params.now in
+    let params = parameters_of c.args.params.now in
     let s = c.args.setting.now in
-    let q = c.index-params-setting.result in
+    let q = c.in_ok-param.param in
     let v = c.in_ok-value.value in
     let named : slice_get params s.number ≡ Some q
-    = named-at params c.setting.inside.number s.number q c.requires.number
-    (ap (λ (s : Setting). s.number) c.setting.view_is) c.index-params-setting.is in
+    = ap (slice_get params) (sym (ap (λ (s : Setting). s.number) c.setting.view_is))
+    ∙ c.in_ok-param.ensures in
     let place : c.param.inside.at ≡ q.at = ap (λ (p : Parameter). p.at) c.param.view_is in
     let bytes : (piece params s).bytes ≡ take v.width c.to_le_bytes-bytes.result =
     piece-bytes params q s named ∙ value-bytes v q s c.in_ok-value.ensures.value
@@ -133,13 +117,13 @@ returns-clause-bytes c =
 
 pub returns-clause-inside : goal.returns-clause-inside
 returns-clause-inside c =
-    let params = c.args.params.now in
+    let params = parameters_of c.args.params.now in
     let s = c.args.setting.now in
-    let q = c.index-params-setting.result in
+    let q = c.in_ok-param.param in
     let v = c.in_ok-value.value in
     let named : slice_get params s.number ≡ Some q
-    = named-at params c.setting.inside.number s.number q c.requires.number
-    (ap (λ (s : Setting). s.number) c.setting.view_is) c.index-params-setting.is in
+    = ap (slice_get params) (sym (ap (λ (s : Setting). s.number) c.setting.view_is))
+    ∙ c.in_ok-param.ensures in
     let bytes : (piece params s).bytes ≡ take v.width (to_le_bytes w64 v.number)
     = piece-bytes params q s named ∙ value-bytes v q s c.in_ok-value.ensures.value in
     let long : length (piece params s).bytes ≤ v.width
@@ -148,28 +132,26 @@ returns-clause-inside c =
 
 pub returns-clause-claims : goal.returns-clause-claims
 returns-clause-claims c = λ o done are.
-    let params = c.args.params.now in
+    let params = parameters_of c.args.params.now in
     let s = c.args.setting.now in
-    let q = c.index-params-setting.result in
+    let q = c.in_ok-param.param in
     let number : c.setting.inside.number ≡ s.number
     = ap (λ (s : Setting). s.number) c.setting.view_is in
     let named : slice_get params s.number ≡ Some q
-    = named-at params c.setting.inside.number s.number q c.requires.number number
-    c.index-params-setting.is in
+    = ap (slice_get params) (sym number) ∙ c.in_ok-param.ensures in
     (c.in_ok-claim.ensures.claims o params done s are (ap (slice_get params) number ∙ named)
     (value-width c.in_ok-value.value q s c.in_ok-value.ensures.value) (sym number)).1
 
 pub returns-clause-passed : goal.returns-clause-passed
 returns-clause-passed c = λ o done are.
-    let params = c.args.params.now in
+    let params = parameters_of c.args.params.now in
     let s = c.args.setting.now in
-    let q = c.index-params-setting.result in
+    let q = c.in_ok-param.param in
     let v = c.in_ok-value.value in
     let number : c.setting.inside.number ≡ s.number
     = ap (λ (s : Setting). s.number) c.setting.view_is in
     let named : slice_get params s.number ≡ Some q
-    = named-at params c.setting.inside.number s.number q c.requires.number number
-    c.index-params-setting.is in
+    = ap (slice_get params) (sym number) ∙ c.in_ok-param.ensures in
     setting-passed o params (length c.args.image.now) done s q named
     (value-passed v q s c.in_ok-value.ensures.value)
     (misplaced-as o params (length c.args.claims.now.taken.items) (length c.args.image.now) done
