@@ -213,6 +213,13 @@ static MATCHED: [(&[u8], &str); 3] = [
     (b"pci_x", "Ok(List { elements: [] })"),
 ];
 
+/// Finds the texts of the patterns that a text matches, each once.
+fn distinct_texts_are_found(rt: &impl Abort, alloc: Global, index: &Index) {
+    let texts = distinct_texts(alloc, index, b"pci_x:v00001d99").expect(rt, "texts");
+    let got = (texts.get(0), texts.get(1), texts.get(2));
+    shown(rt, alloc, got, "(Some([120]), Some([121]), None)");
+}
+
 /// Looks up texts among patterns.
 fn look_up_patterns<L: Ledger>(rt: &impl Abort, alloc: Global, steps: &mut Steps<L>) {
     let file = file_of(rt, alloc, &TWO_PATTERNS);
@@ -220,13 +227,7 @@ fn look_up_patterns<L: Ledger>(rt: &impl Abort, alloc: Global, steps: &mut Steps
     for (text, want) in &MATCHED {
         shown(rt, alloc, index.wild(alloc, text, steps), want);
     }
-    let texts = distinct_texts(alloc, &index, b"pci_x:v00001d99").expect(rt, "texts");
-    shown(
-        rt,
-        alloc,
-        (texts.get(0), texts.get(1), texts.get(2)),
-        "(Some([120]), Some([121]), None)",
-    );
+    distinct_texts_are_found(rt, alloc, &index);
     drop(index);
 }
 
