@@ -147,6 +147,11 @@ static CALLS: [TreeRow<'static>; 13] = [
     },
 ];
 
+/// Returns these trees.
+fn calls() -> &'static [TreeRow<'static>] {
+    &CALLS
+}
+
 /// The calls of the loads, with what was written and put before. The last run of each kind has no
 /// call of that number, and is done.
 static LOADING: [TreeRow<'static>; 8] = [
@@ -208,6 +213,11 @@ static LOADING: [TreeRow<'static>; 8] = [
     },
 ];
 
+/// Returns these trees.
+fn loading() -> &'static [TreeRow<'static>] {
+    &LOADING
+}
+
 /// The writes to the output. The last run has no write of that number, and is done.
 static WRITES: [TreeRow<'static>; 4] = [
     TreeRow {
@@ -235,9 +245,14 @@ static WRITES: [TreeRow<'static>; 4] = [
     },
 ];
 
+/// Returns these trees.
+fn writes() -> &'static [TreeRow<'static>] {
+    &WRITES
+}
+
 #[test]
 fn each_call_can_fail(rt: HostRuntime) {
-    run_trees(rt.alloc(), &CALLS).expect(&rt, "calls that fail");
-    run_trees(rt.alloc(), &LOADING).expect(&rt, "loads that fail");
-    run_trees(rt.alloc(), &WRITES).expect(&rt, "writes that fail");
+    run_trees(rt.alloc(), calls()).expect(&rt, "calls that fail");
+    run_trees(rt.alloc(), loading()).expect(&rt, "loads that fail");
+    run_trees(rt.alloc(), writes()).expect(&rt, "writes that fail");
 }

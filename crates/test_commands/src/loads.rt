@@ -157,6 +157,11 @@ static TREES: [TreeRow<'static>; 6] = [
     },
 ];
 
+/// Returns these trees.
+fn trees() -> &'static [TreeRow<'static>] {
+    &TREES
+}
+
 /// The load of a file system. One of its helpers is listed as loaded.
 const FILE_SYSTEM_LOAD: RowOf<'static> = (
     "modprobe -d /r -S 6.1.0 --system-map /r/System.map --symvers /r/Module.symvers \
@@ -197,8 +202,13 @@ static FILE_SYSTEM_TREE: TreeRow<'static> = TreeRow {
     ..INDEXED
 };
 
+/// Returns that tree.
+fn file_system_tree() -> &'static TreeRow<'static> {
+    &FILE_SYSTEM_TREE
+}
+
 #[test]
 fn modules_are_loaded_or_refused(rt: HostRuntime) {
-    run_trees(rt.alloc(), &TREES).expect(&rt, "loads");
-    run_tree(rt.alloc(), &FILE_SYSTEM_TREE).expect(&rt, "a file system");
+    run_trees(rt.alloc(), trees()).expect(&rt, "loads");
+    run_tree(rt.alloc(), file_system_tree()).expect(&rt, "a file system");
 }

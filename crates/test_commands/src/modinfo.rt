@@ -5,8 +5,8 @@ use std::alloc::Global;
 use std::process::Abort;
 use test_objects::{EMPTY_SHEET, LICENSE_OBJECT, NO_MORE, SheetRow};
 use test_rows::{
-    Failing, FileRow, ModuleRow, Objects, PLAIN, Row, TreeRow, USAGE, compare_seen, image,
-    run_tree, run_trees, run_words,
+    Failing, FileRow, Objects, PLAIN, Row, TreeRow, USAGE, compare_seen, image, run_over, run_tree,
+    run_trees, run_words,
 };
 
 /// A module with two parameters, one of them without a text.
@@ -121,6 +121,11 @@ static BY_PATH: [Row; 25] = [
     ("modinfo -- -F", 1, "", "kmod: no file -F\n"),
 ];
 
+/// Returns these rows.
+fn by_path() -> &'static [Row] {
+    &BY_PATH
+}
+
 /// One module.
 const ONE: TreeRow<'static> = TreeRow {
     modules: &[("/m/a.ko", &LICENSED, &NO_MORE)],
@@ -157,6 +162,11 @@ static NOT_UNDERSTOOD: TreeRow<'static> = TreeRow {
     ],
     ..ONE
 };
+
+/// Returns that tree.
+fn not_understood() -> &'static TreeRow<'static> {
+    &NOT_UNDERSTOOD
+}
 
 /// What fails while modules are shown, and the row then. The first module is printed before the
 /// second is read. If the line of a refusal can't be written there is none.
@@ -203,14 +213,22 @@ static FAILING: [TreeRow<'static>; 5] = [
     },
 ];
 
-/// Modules at paths, beside two that are byte by byte.
-static MODULES: [ModuleRow<'static>; 2] = [
-    ("/m/p.ko", &PARAMETERS, &NO_MORE),
-    ("/m/lone.ko", &LONE_KEY, &NO_MORE),
-];
+/// Returns these trees.
+fn failing() -> &'static [TreeRow<'static>] {
+    &FAILING
+}
 
-/// Shows modules by their paths. No file is changed.
-fn expect_shown(rt: &impl Abort, alloc: Global) {
+/// Modules at paths.
+static MODULES: TreeRow<'static> = TreeRow {
+    modules: &[
+        ("/m/p.ko", &PARAMETERS, &NO_MORE),
+        ("/m/lone.ko", &LONE_KEY, &NO_MORE),
+    ],
+    ..PLAIN
+};
+
+/// Puts two modules that are byte by byte, one of them cut.
+fn put_modules(rt: &impl Abort, alloc: Global, objects: &mut Objects) {
     let whole = FileRow {
         path: "/m/a.ko",
         bytes: &LICENSE_OBJECT,
@@ -219,13 +237,15 @@ fn expect_shown(rt: &impl Abort, alloc: Global) {
         path: "/m/cut.ko",
         bytes: &LICENSE_OBJECT[..287],
     };
-    let tree = TreeRow {
-        modules: &MODULES,
-        files: &[whole, cut],
-        rows: &BY_PATH,
-        ..PLAIN
-    };
-    run_tree(alloc, &tree).expect(rt, "modules by their paths");
+    objects.put_files(alloc, &[whole, cut]).expect(rt, "files");
+}
+
+/// Runs a row over these modules. No file is changed.
+fn expect_shown(rt: &impl Abort, alloc: Global, row: Row) {
+    let mut objects = Objects::new(alloc).expect(rt, "objects");
+    put_modules(rt, alloc, &mut objects);
+    run_over(alloc, &mut objects, &MODULES, row).expect(rt, "a module by its path");
+    drop(objects);
 }
 
 /// What is said of a file past the limit.
@@ -257,9 +277,11 @@ fn expect_too_large(rt: &impl Abort, alloc: Global) {
 #[test]
 fn modules_are_shown_by_their_paths(rt: HostRuntime) {
     let alloc = rt.alloc();
-    expect_shown(&rt, alloc);
-    run_tree(alloc, &NOT_UNDERSTOOD).expect(&rt, "words that aren't understood");
-    run_trees(alloc, &FAILING).expect(&rt, "calls that fail");
+    for row in by_path() {
+        expect_shown(&rt, alloc, *row);
+    }
+    run_tree(alloc, not_understood()).expect(&rt, "words that aren't understood");
+    run_trees(alloc, failing()).expect(&rt, "calls that fail");
 }
 
 #[test]

@@ -57,7 +57,12 @@ static TREES: [TreeRow<'static>; 3] = [
     },
 ];
 
+/// Returns these trees.
+fn trees() -> &'static [TreeRow<'static>] {
+    &TREES
+}
+
 #[test]
 fn names_stand_for_modules(rt: HostRuntime) {
-    run_trees(rt.alloc(), &TREES).expect(&rt, "names");
+    run_trees(rt.alloc(), trees()).expect(&rt, "names");
 }

@@ -197,7 +197,12 @@ static TREE: TreeRow<'static> = TreeRow {
     ..INDEXED
 };
 
+/// Returns that tree.
+fn tree() -> &'static TreeRow<'static> {
+    &TREE
+}
+
 #[test]
 fn modules_are_removed_or_refused(rt: HostRuntime) {
-    run_tree(rt.alloc(), &TREE).expect(&rt, "removals");
+    run_tree(rt.alloc(), tree()).expect(&rt, "removals");
 }

@@ -40,6 +40,11 @@ static TRIALS: TreeRow<'static> = TreeRow {
     ..PLAIN
 };
 
+/// Returns that tree.
+fn trials() -> &'static TreeRow<'static> {
+    &TRIALS
+}
+
 /// Words that aren't understood.
 static NOT_UNDERSTOOD: TreeRow<'static> = TreeRow {
     rows: &[
@@ -50,6 +55,11 @@ static NOT_UNDERSTOOD: TreeRow<'static> = TreeRow {
     ],
     ..PLAIN
 };
+
+/// Returns that tree.
+fn not_understood() -> &'static TreeRow<'static> {
+    &NOT_UNDERSTOOD
+}
 
 /// A tree of 2,000 modules. A separate program worked out its digest and its dependencies.
 const OF_MANY: Row = (
@@ -69,13 +79,18 @@ static MANY: TreeRow<'static> = TreeRow {
     ..PLAIN
 };
 
+/// Returns that tree.
+fn many() -> &'static TreeRow<'static> {
+    &MANY
+}
+
 #[test]
 fn made_trees_are_indexed_and_loaded(rt: HostRuntime) {
-    run_tree(rt.alloc(), &TRIALS).expect(&rt, "trials");
-    run_tree(rt.alloc(), &NOT_UNDERSTOOD).expect(&rt, "words");
+    run_tree(rt.alloc(), trials()).expect(&rt, "trials");
+    run_tree(rt.alloc(), not_understood()).expect(&rt, "words");
 }
 
 #[test]
 fn a_tree_of_many_modules(rt: HostRuntime) {
-    run_tree(rt.alloc(), &MANY).expect(&rt, "trials of many modules");
+    run_tree(rt.alloc(), many()).expect(&rt, "trials of many modules");
 }

@@ -7,8 +7,7 @@ use std::alloc::Global;
 use std::process::Abort;
 use test_objects::{NO_MORE, object_with};
 use test_rows::{
-    Failing, FileRow, INDEX, ModuleRow, Objects, Row, SYMVERS, TWO, TreeRow, run_next, run_over,
-    run_tree,
+    Failing, FileRow, INDEX, ModuleRow, Objects, Row, TWO, TreeRow, run_next, run_over,
 };
 
 /// Two modules that are indexed for the first time. The third replacement after that fails.
@@ -53,12 +52,14 @@ fn expect_second(rt: &impl Abort, alloc: Global) {
 }
 
 /// The names of versions in the extended form have no end.
-const CUT: TreeRow<'static> = TreeRow {
+static CUT: TreeRow<'static> = TreeRow {
     name: "names of versions without an end",
     modules: &[("kernel/a.ko", &GIVES_LONG, &NO_MORE)],
-    rows: &[(INDEX, 1, "", "kmod: kernel/b.ko: bad versions\n")],
     ..KEPT
 };
+
+/// What comes out of it.
+static CUT_ROW: Row = (INDEX, 1, "", "kmod: kernel/b.ko: bad versions\n");
 
 /// Returns where the last run of 60 or more bytes `x` ends, in a file that has other bytes after
 /// it.
@@ -97,17 +98,14 @@ fn cut_last_name(rt: &impl Abort, bytes: &mut Vec<u8>) {
 /// Indexes a tree in which a module has a name of a version without its NUL.
 fn expect_bad_versions(rt: &impl Abort, alloc: Global) {
     let bytes = cut_object(rt, alloc);
-    let tree = TreeRow {
-        files: &[
-            SYMVERS,
-            FileRow {
-                path: "/r/lib/modules/6.1.0/kernel/b.ko",
-                bytes: bytes.as_slice(),
-            },
-        ],
-        ..CUT
+    let file = FileRow {
+        path: "/r/lib/modules/6.1.0/kernel/b.ko",
+        bytes: bytes.as_slice(),
     };
-    run_tree(alloc, &tree).expect(rt, "a module that is cut");
+    let mut objects = Objects::new(alloc).expect(rt, "objects");
+    objects.put_files(alloc, &[file]).expect(rt, "a file");
+    run_over(alloc, &mut objects, &CUT, CUT_ROW).expect(rt, "a module that is cut");
+    drop(objects);
 }
 
 #[test]

@@ -36,7 +36,7 @@ const ONE: TreeRow<'static> = TreeRow {
 };
 
 /// Trees and their files.
-static ROWS: [TreeRow<'static>; 10] = [
+static INDEXED: [TreeRow<'static>; 5] = [
     TreeRow {
         name: "a built-in alias and a device node",
         ..ONE
@@ -97,6 +97,15 @@ static ROWS: [TreeRow<'static>; 10] = [
         ],
         ..ONE
     },
+];
+
+/// Returns these trees.
+fn indexed() -> &'static [TreeRow<'static>] {
+    &INDEXED
+}
+
+/// Runs that replace no file, or not all.
+static CUT_SHORT: [TreeRow<'static>; 5] = [
     // With `-n` the texts go to the output, the device nodes after modules.unmet.
     TreeRow {
         name: "text files go to the output",
@@ -172,7 +181,13 @@ static ROWS: [TreeRow<'static>; 10] = [
     },
 ];
 
+/// Returns these trees.
+fn cut_short() -> &'static [TreeRow<'static>] {
+    &CUT_SHORT
+}
+
 #[test]
 fn trees_are_indexed_with_two_more_files(rt: HostRuntime) {
-    run_trees(rt.alloc(), &ROWS).expect(&rt, "trees with two more files");
+    run_trees(rt.alloc(), indexed()).expect(&rt, "trees with two more files");
+    run_trees(rt.alloc(), cut_short()).expect(&rt, "runs that are cut short");
 }

@@ -112,6 +112,11 @@ static BAD_INDEXES: [TreeRow<'static>; 2] = [
     },
 ];
 
+/// Returns these trees.
+fn bad_indexes() -> &'static [TreeRow<'static>] {
+    &BAD_INDEXES
+}
+
 /// Words that print the nodes of a modules.devname.
 const PRINT: &str = "static-nodes -d /r -S 6.1.0 -f devname";
 
@@ -210,6 +215,11 @@ static NODE_TEXTS: [TreeRow<'static>; 8] = [
     },
 ];
 
+/// Returns these trees.
+fn node_texts() -> &'static [TreeRow<'static>] {
+    &NODE_TEXTS
+}
+
 /// The trees of these lookups.
 static TREES: [TreeRow<'static>; 2] = [
     TreeRow {
@@ -228,10 +238,15 @@ static TREES: [TreeRow<'static>; 2] = [
     },
 ];
 
+/// Returns these trees.
+fn trees() -> &'static [TreeRow<'static>] {
+    &TREES
+}
+
 #[test]
 fn names_and_nodes_are_found(rt: HostRuntime) {
     let alloc = rt.alloc();
-    run_trees(alloc, &TREES).expect(&rt, "lookups");
-    run_trees(alloc, &BAD_INDEXES).expect(&rt, "bad indexes");
-    run_trees(alloc, &NODE_TEXTS).expect(&rt, "texts of nodes");
+    run_trees(alloc, trees()).expect(&rt, "lookups");
+    run_trees(alloc, bad_indexes()).expect(&rt, "bad indexes");
+    run_trees(alloc, node_texts()).expect(&rt, "texts of nodes");
 }

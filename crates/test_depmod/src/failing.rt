@@ -110,6 +110,11 @@ static CALLS: [TreeRow<'static>; 12] = [
     },
 ];
 
+/// Returns these trees.
+fn calls() -> &'static [TreeRow<'static>] {
+    &CALLS
+}
+
 /// The replacements in their order, with the files that were replaced before. The last run of each
 /// kind has no call of that number, and is done.
 static REPLACEMENTS: [TreeRow<'static>; 12] = [
@@ -223,6 +228,11 @@ static REPLACEMENTS: [TreeRow<'static>; 12] = [
     },
 ];
 
+/// Returns these trees.
+fn replacements() -> &'static [TreeRow<'static>] {
+    &REPLACEMENTS
+}
+
 /// Words whose texts go to the output.
 const PRINT: &str = "depmod -n -b /r -E /r/Module.symvers 6.1.0";
 
@@ -290,6 +300,11 @@ static WRITES: [TreeRow<'static>; 5] = [
     },
 ];
 
+/// Returns these trees.
+fn writes() -> &'static [TreeRow<'static>] {
+    &WRITES
+}
+
 /// The table of a kernel that doesn't export `printk`.
 const OTHER_SYMVERS: FileRow<'static> = FileRow {
     path: "/r/Module.symvers",
@@ -324,11 +339,16 @@ static WARNED: [TreeRow<'static>; 2] = [
     },
 ];
 
+/// Returns these trees.
+fn warned() -> &'static [TreeRow<'static>] {
+    &WARNED
+}
+
 #[test]
 fn each_call_can_fail(rt: HostRuntime) {
     let alloc = rt.alloc();
-    run_trees(alloc, &CALLS).expect(&rt, "calls that fail");
-    run_trees(alloc, &REPLACEMENTS).expect(&rt, "replacements that fail");
-    run_trees(alloc, &WRITES).expect(&rt, "writes that fail");
-    run_trees(alloc, &WARNED).expect(&rt, "warnings");
+    run_trees(alloc, calls()).expect(&rt, "calls that fail");
+    run_trees(alloc, replacements()).expect(&rt, "replacements that fail");
+    run_trees(alloc, writes()).expect(&rt, "writes that fail");
+    run_trees(alloc, warned()).expect(&rt, "warnings");
 }

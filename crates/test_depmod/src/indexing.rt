@@ -20,7 +20,7 @@ use test_rows::{
 };
 
 /// Trees that are indexed.
-static INDEXED: [TreeRow<'static>; 10] = [
+static INDEXED: [TreeRow<'static>; 5] = [
     // A tree without modules: the texts have their headings, and each index is the index of an
     // empty map.
     TreeRow {
@@ -83,6 +83,15 @@ static INDEXED: [TreeRow<'static>; 10] = [
         index: &ALIASES_OF_X,
         ..DONE
     },
+];
+
+/// Returns these trees.
+fn indexed() -> &'static [TreeRow<'static>] {
+    &INDEXED
+}
+
+/// Trees whose index has lines of modules.unmet, or would have them over another table.
+static WITH_LINES: [TreeRow<'static>; 5] = [
     // The first module in the tree provides what two export.
     TreeRow {
         name: "two modules export one name",
@@ -145,8 +154,13 @@ static INDEXED: [TreeRow<'static>; 10] = [
     },
 ];
 
-/// Further trees that are indexed, or whose index is cut short.
-static FURTHER: [TreeRow<'static>; 13] = [
+/// Returns these trees.
+fn with_lines() -> &'static [TreeRow<'static>] {
+    &WITH_LINES
+}
+
+/// Exports that not all modules may use.
+static RESTRICTED: [TreeRow<'static>; 5] = [
     // A module without a free license doesn't see a GPL-only export.
     TreeRow {
         name: "a GPL-only export has a line",
@@ -197,6 +211,15 @@ static FURTHER: [TreeRow<'static>; 13] = [
         index: &TWO_MODULES,
         ..DONE
     },
+];
+
+/// Returns these trees.
+fn restricted() -> &'static [TreeRow<'static>] {
+    &RESTRICTED
+}
+
+/// Modules of one name, of which one is chosen.
+static CHOSEN: [TreeRow<'static>; 3] = [
     // Of two modules of one name the one in `updates` is chosen.
     TreeRow {
         name: "an update is chosen",
@@ -236,6 +259,15 @@ static FURTHER: [TreeRow<'static>; 13] = [
         index: &UPDATED_B,
         ..DONE
     },
+];
+
+/// Returns these trees.
+fn chosen() -> &'static [TreeRow<'static>] {
+    &CHOSEN
+}
+
+/// Further trees that are indexed, or whose index is cut short.
+static FURTHER: [TreeRow<'static>; 5] = [
     // A replacement that fails leaves those before it done, and the others as they were.
     TreeRow {
         name: "the third replacement fails",
@@ -295,6 +327,11 @@ static FURTHER: [TreeRow<'static>; 13] = [
         ..DONE
     },
 ];
+
+/// Returns these trees.
+fn further() -> &'static [TreeRow<'static>] {
+    &FURTHER
+}
 
 /// Trees that are refused. No file is replaced.
 static REFUSALS: [TreeRow<'static>; 9] = [
@@ -432,6 +469,11 @@ static REFUSALS: [TreeRow<'static>; 9] = [
     },
 ];
 
+/// Returns these trees.
+fn refusals() -> &'static [TreeRow<'static>] {
+    &REFUSALS
+}
+
 /// A file system with two helpers, over a kernel of 40 names.
 static FILE_SYSTEM_ROW: TreeRow<'static> = TreeRow {
     name: "a file system needs two helpers",
@@ -441,11 +483,19 @@ static FILE_SYSTEM_ROW: TreeRow<'static> = TreeRow {
     ..DONE
 };
 
+/// Returns that tree.
+fn file_system_row() -> &'static TreeRow<'static> {
+    &FILE_SYSTEM_ROW
+}
+
 #[test]
 fn trees_are_indexed_or_refused(rt: HostRuntime) {
     let alloc = rt.alloc();
-    run_trees(alloc, &INDEXED).expect(&rt, "trees that are indexed");
-    run_trees(alloc, &FURTHER).expect(&rt, "further trees");
-    run_trees(alloc, &REFUSALS).expect(&rt, "trees that are refused");
-    run_tree(alloc, &FILE_SYSTEM_ROW).expect(&rt, "a file system");
+    run_trees(alloc, indexed()).expect(&rt, "trees that are indexed");
+    run_trees(alloc, with_lines()).expect(&rt, "trees with lines");
+    run_trees(alloc, restricted()).expect(&rt, "exports that not all may use");
+    run_trees(alloc, chosen()).expect(&rt, "modules that are chosen");
+    run_trees(alloc, further()).expect(&rt, "further trees");
+    run_trees(alloc, refusals()).expect(&rt, "trees that are refused");
+    run_tree(alloc, file_system_row()).expect(&rt, "a file system");
 }

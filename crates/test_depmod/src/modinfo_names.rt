@@ -119,6 +119,11 @@ static SHOWN: TreeRow<'static> = TreeRow {
     ..NAMED
 };
 
+/// Returns that tree.
+fn shown() -> &'static TreeRow<'static> {
+    &SHOWN
+}
+
 /// Indexes in place of modules.dep.bin, with which `a` can't be shown.
 static REFUSED: [TreeRow<'static>; 5] = [
     TreeRow {
@@ -183,6 +188,11 @@ static REFUSED: [TreeRow<'static>; 5] = [
     },
 ];
 
+/// Returns these trees.
+fn refused() -> &'static [TreeRow<'static>] {
+    &REFUSED
+}
+
 /// Reads that fail in turn, with what is printed before: the index is read once, and first.
 static FAILING: [TreeRow<'static>; 3] = [
     TreeRow {
@@ -217,10 +227,15 @@ static FAILING: [TreeRow<'static>; 3] = [
     },
 ];
 
+/// Returns these trees.
+fn failing() -> &'static [TreeRow<'static>] {
+    &FAILING
+}
+
 #[test]
 fn modules_are_shown_by_their_names(rt: HostRuntime) {
     let alloc = rt.alloc();
-    run_tree(alloc, &SHOWN).expect(&rt, "modules by their names");
-    run_trees(alloc, &REFUSED).expect(&rt, "refused indexes");
-    run_trees(alloc, &FAILING).expect(&rt, "reads that fail");
+    run_tree(alloc, shown()).expect(&rt, "modules by their names");
+    run_trees(alloc, refused()).expect(&rt, "refused indexes");
+    run_trees(alloc, failing()).expect(&rt, "reads that fail");
 }

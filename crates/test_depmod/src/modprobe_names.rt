@@ -121,6 +121,11 @@ static NAMES: [TreeRow<'static>; 9] = [
     },
 ];
 
+/// Returns these trees.
+fn names() -> &'static [TreeRow<'static>] {
+    &NAMES
+}
+
 /// Configurations, and the names of their aliases: the earlier folder counts.
 static CONFIGURED: [TreeRow<'static>; 5] = [
     TreeRow {
@@ -205,6 +210,11 @@ static CONFIGURED: [TreeRow<'static>; 5] = [
     },
 ];
 
+/// Returns these trees.
+fn configured() -> &'static [TreeRow<'static>] {
+    &CONFIGURED
+}
+
 /// Files that aren't understood. The first in the order of work is reported.
 static IN_ORDER: [TreeRow<'static>; 4] = [
     TreeRow {
@@ -270,6 +280,11 @@ static IN_ORDER: [TreeRow<'static>; 4] = [
     },
 ];
 
+/// Returns these trees.
+fn in_order() -> &'static [TreeRow<'static>] {
+    &IN_ORDER
+}
+
 /// Indexes in place of modules.dep.bin, with which nothing is looked up.
 static BAD_INDEXES: [TreeRow<'static>; 3] = [
     TreeRow {
@@ -313,11 +328,16 @@ static BAD_INDEXES: [TreeRow<'static>; 3] = [
     },
 ];
 
+/// Returns these trees.
+fn bad_indexes() -> &'static [TreeRow<'static>] {
+    &BAD_INDEXES
+}
+
 #[test]
 fn names_stand_for_modules(rt: HostRuntime) {
     let alloc = rt.alloc();
-    run_trees(alloc, &NAMES).expect(&rt, "names");
-    run_trees(alloc, &CONFIGURED).expect(&rt, "configurations");
-    run_trees(alloc, &IN_ORDER).expect(&rt, "files in the order of work");
-    run_trees(alloc, &BAD_INDEXES).expect(&rt, "bad indexes");
+    run_trees(alloc, names()).expect(&rt, "names");
+    run_trees(alloc, configured()).expect(&rt, "configurations");
+    run_trees(alloc, in_order()).expect(&rt, "files in the order of work");
+    run_trees(alloc, bad_indexes()).expect(&rt, "bad indexes");
 }

@@ -41,11 +41,13 @@ pub struct Objects {
 impl Objects {
     /// Returns no file, and outputs with ample room. The only error is out of memory.
     pub fn new(alloc: Global) -> Result<Objects, AllocError> {
+        let out = MemOut::with_room(alloc, 4096)?;
+        let err = MemOut::with_room(alloc, 4096)?;
         Ok(Objects {
             files: MemFiles::new(alloc),
             wanted: MemFiles::new(alloc),
-            out: MemOut::with_room(alloc, 4096)?,
-            err: MemOut::with_room(alloc, 4096)?,
+            out,
+            err,
             status: 0,
         })
     }
@@ -69,6 +71,14 @@ impl Objects {
     ) -> Result<(), RowFault> {
         for (path, sheet, more) in modules {
             self.put_module(alloc, path, (sheet, more))?;
+        }
+        Ok(())
+    }
+
+    /// Puts files that are written out, which are to stay. The only error is out of memory.
+    pub fn put_files(&mut self, alloc: Global, files: &[FileRow<'_>]) -> Result<(), AllocError> {
+        for file in files {
+            self.put_at(alloc, file.path.as_bytes(), file.bytes)?;
         }
         Ok(())
     }
@@ -104,19 +114,12 @@ impl Objects {
         Ok(self.other_of(alloc, &paths)?)
     }
 
-    /// Puts a file, which is to stay. The only error is out of memory.
-    fn put(&mut self, path: &PathText, bytes: &[u8]) -> Result<(), AllocError> {
-        self.files.put(path, bytes)?;
-        self.wanted.put(path, bytes)
-    }
-
-    /// Puts files that are written out, which are to stay. The only error is out of memory.
-    fn put_files(&mut self, alloc: Global, files: &[FileRow<'_>]) -> Result<(), AllocError> {
-        for file in files {
-            let path = PathText::from_slice(alloc, file.path.as_bytes())?;
-            self.put(&path, file.bytes)?;
-        }
-        Ok(())
+    /// Puts a file, which is to stay, at a path that begins with a `/`, or is one in the folder of
+    /// the kernel. The only error is out of memory.
+    fn put_at(&mut self, alloc: Global, path: &[u8], bytes: &[u8]) -> Result<(), AllocError> {
+        let path = path_in(alloc, FOLDER, path)?;
+        self.files.put(&path, bytes)?;
+        self.wanted.put(&path, bytes)
     }
 
     /// Puts the module of a sheet. It is refused if it isn't a sheet.
@@ -126,17 +129,15 @@ impl Objects {
         path: &str,
         (sheet, more): (&SheetRow, &MoreRow),
     ) -> Result<(), RowFault> {
-        let path = module_path(alloc, path.as_bytes())?;
         let object = object_with(alloc, sheet, more)?;
-        Ok(self.put(&path, object.as_bytes())?)
+        Ok(self.put_at(alloc, path.as_bytes(), object.as_bytes())?)
     }
 
     /// Puts an index, each file of which has the bytes `old` and is to stay. The only error is out
     /// of memory.
     fn put_old(&mut self, alloc: Global) -> Result<(), AllocError> {
         for name in &NAMES {
-            let path = path_in(alloc, FOLDER, name)?;
-            self.put(&path, b"old")?;
+            self.put_at(alloc, name, b"old")?;
         }
         Ok(())
     }
@@ -151,11 +152,22 @@ impl Objects {
         }
     }
 
+    /// Wants a file at a path that begins with a `/`, or is one in a folder. The only error is out
+    /// of memory.
+    fn want_at(
+        &mut self,
+        alloc: Global,
+        (folder, path): (&[u8], &[u8]),
+        bytes: &[u8],
+    ) -> Result<(), AllocError> {
+        let path = path_in(alloc, folder, path)?;
+        self.wanted.put(&path, bytes)
+    }
+
     /// Wants files that are written out. The only error is out of memory.
     fn want_files(&mut self, alloc: Global, files: &[FileRow<'_>]) -> Result<(), AllocError> {
         for file in files {
-            let path = PathText::from_slice(alloc, file.path.as_bytes())?;
-            self.wanted.put(&path, file.bytes)?;
+            self.want_at(alloc, (FOLDER, file.path.as_bytes()), file.bytes)?;
         }
         Ok(())
     }
@@ -163,8 +175,7 @@ impl Objects {
     /// Wants the first files of an index, which a row replaces. The only error is out of memory.
     fn want_index(&mut self, alloc: Global, tree: &TreeRow<'_>) -> Result<(), AllocError> {
         for (name, bytes) in NAMES.iter().zip(tree.index).take(tree.replaced) {
-            let path = path_in(alloc, tree.folder, name)?;
-            self.wanted.put(&path, bytes)?;
+            self.want_at(alloc, (tree.folder, name), bytes)?;
         }
         Ok(())
     }
@@ -172,9 +183,8 @@ impl Objects {
     /// Wants images. The only error is out of memory.
     fn want_images(&mut self, alloc: Global, images: &[ImageRow<'_>]) -> Result<(), AllocError> {
         for row in images {
-            let path = PathText::from_slice(alloc, row.path.as_bytes())?;
             let bytes = image(alloc, row.length, row.pieces)?;
-            self.wanted.put(&path, bytes.as_slice())?;
+            self.want_at(alloc, (FOLDER, row.path.as_bytes()), bytes.as_slice())?;
         }
         Ok(())
     }
@@ -202,17 +212,11 @@ pub fn words_of(alloc: Global, text: &str) -> Result<List<Word>, AllocError> {
     Ok(words)
 }
 
-/// Returns the path of a file in a folder. The only error is out of memory.
-fn path_in(alloc: Global, folder: &[u8], name: &[u8]) -> Result<PathText, AllocError> {
-    let folder = PathText::from_slice(alloc, folder)?;
-    join(alloc, &folder, name)
-}
-
-/// Returns the path of a module: it begins with a `/`, or is one in the folder of the kernel.
-fn module_path(alloc: Global, path: &[u8]) -> Result<PathText, AllocError> {
+/// Returns a path: it begins with a `/`, or is one in a folder. The only error is out of memory.
+fn path_in(alloc: Global, folder: &[u8], path: &[u8]) -> Result<PathText, AllocError> {
     if path.starts_with(b"/") {
-        PathText::from_slice(alloc, path)
-    } else {
-        path_in(alloc, FOLDER, path)
+        return PathText::from_slice(alloc, path);
     }
+    let folder = PathText::from_slice(alloc, folder)?;
+    join(alloc, &folder, path)
 }

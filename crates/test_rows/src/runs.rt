@@ -68,7 +68,9 @@ pub fn run_words(alloc: Global, objects: &mut Objects, words: &str) -> Result<()
 /// Runs a row of a tree over objects of its own.
 fn run_row(alloc: Global, tree: &TreeRow<'_>, row: RowOf<'_>) -> Result<(), Difference> {
     let mut objects = Objects::new(alloc)?;
-    run_over(alloc, &mut objects, tree, row)
+    let outcome = run_over(alloc, &mut objects, tree, row);
+    drop(objects);
+    outcome
 }
 
 /// Returns what tells a row: the name of its tree, or else its words.
