@@ -8,7 +8,7 @@ ghost use Rattle.param_apply.specs.Words.{Parameter, setting, settings as settin
 ghost use Rattle.param_apply.specs.Words.{word_text};
 
 use crate::parameter::{Parameters, place_named};
-use crate::words::{WordNames, WordRef, named_params, stated_words};
+use crate::words::{WordRef, named_params, stated_words};
 use km_names::split_at_byte;
 use name_table::OwnedNameTable;
 use std::alloc::{AllocError, Global};
@@ -40,8 +40,7 @@ pub(crate) fn settings<'a>(
     ensures { IfOk result (λ v. v.items ≡ settings_spec (parameters_of params.now) options.now) }
 {
     let words = stated_words(alloc, options)?;
-    let names = WordNames::new(alloc, &words)?;
-    let table = named_params(alloc, params, &names)?;
+    let table = named_params(alloc, params, &words)?;
     settings_of(alloc, &table, &words)
 }
 

@@ -57,7 +57,7 @@ pub(crate) struct WordNames {
 
 impl WordNames {
     /// Returns the names in these words.
-    pub(crate) fn new(alloc: Global, words: &[WordRef]) -> Result<WordNames, AllocError>
+    fn new(alloc: Global, words: &[WordRef]) -> Result<WordNames, AllocError>
         ensures { IfOk result (λ names. AreWordNames names words.now) }
     {
         // No options have so many words.
@@ -85,6 +85,19 @@ impl WordNames {
 /// Returns the table of the parameters that words name. Names may share their bytes, so none is
 /// read further than the longest name of a word, and only names of words are copied into it.
 pub(crate) fn named_params(
+    alloc: Global,
+    params: &Parameters,
+    words: &[WordRef],
+) -> Result<OwnedNameTable, AllocError>
+    ensures { IfOk result
+        (λ t. IsTableOf t (map (kept_name words.now) (parameters_of params.now))) }
+{
+    let names = WordNames::new(alloc, words)?;
+    params_of_names(alloc, params, &names)
+}
+
+/// Returns the table of the parameters that have one of these names.
+fn params_of_names(
     alloc: Global,
     params: &Parameters,
     names: &WordNames,

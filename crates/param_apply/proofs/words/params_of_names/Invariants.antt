@@ -1,7 +1,7 @@
 use Rattle.std.proofs.Common.{◌≡◌, ℕ, List, map, take}
 use Rattle.name_table.specs.NameTable.{IsTableOf}
 use Rattle.param_apply.specs.Naming.{AreWordNames, kept_name, parameters_of}
-use Rattle.param_apply.proofs.words.named_params.Given as goal
+use Rattle.param_apply.proofs.words.params_of_names.Given as goal
 
 abbrev pub invariant-loop-k : goal.invariant-loop-k
 invariant-loop-k l = record {
