@@ -4,7 +4,7 @@ ghost use Rattle.modinfo_tool.specs.Show.{shown_text};
 ghost use Rattle.command_modinfo.specs.ModuleInfo.{bytes_named, module_fields};
 ghost use Rattle.command_modinfo.specs.PlainKeys.{if_plain, plain_key};
 
-use elf_sections::Sections;
+use elf_sections::SectionFile;
 use km_names::{Blob, Name, PathText};
 use modinfo_fields::fields;
 use modinfo_tool::{ShowOptions, show, show_values};
@@ -16,13 +16,13 @@ use std::alloc::{AllocError, Global};
 pub(crate) fn module_text(
     alloc: Global,
     path: &PathText,
-    sections: &Sections,
+    sections: &SectionFile,
     options: &ShowOptions,
 ) -> Result<Blob, AllocError>
     ensures { IfOk result
         (λ text. text ≡ shown_text path.now (module_fields sections.now) options.now) }
 {
-    let section = module_info(sections);
+    let section = module_info(alloc, sections)?;
     match plain_key(&options.field) {
         Some(key) => show_values(alloc, section, key, options.zero),
         None => show(alloc, path, &fields(alloc, section)?, options),
@@ -50,11 +50,12 @@ fn if_plain(key: &[u8]) -> Option<&[u8]>
 }
 
 /// Returns the bytes of the module's first `.modinfo` section, or none if there is no such section.
-fn module_info(sections: &Sections) -> &[u8]
-    ensures { result.now ≡ bytes_named (codes ".modinfo") sections.now }
+fn module_info(alloc: Global, sections: &SectionFile) -> Result<&[u8], AllocError>
+    ensures { IfOk result (λ bytes. bytes.now ≡ bytes_named (codes ".modinfo") sections.now) }
 {
-    match sections.section_named(b".modinfo") {
-        Some(index) => sections.section_bytes(index),
-        None => &[],
+    let table = sections.table(alloc)?;
+    match table.section_named(b".modinfo") {
+        Some(index) => Ok(table.section_bytes(index)),
+        None => Ok(&[]),
     }
 }

@@ -23,6 +23,7 @@
 mod fault;
 mod header;
 mod section;
+mod section_file;
 mod section_table;
 mod sections;
 mod shape;
@@ -30,6 +31,7 @@ mod strings;
 
 pub use fault::SectionFault;
 pub use section::{Section, SectionRef};
+pub use section_file::SectionFile;
 pub use section_table::SectionTable;
 pub use sections::Sections;
 pub use strings::{NAME_LIMIT, SEARCH_LIMIT, bytes_left, string_within, up_to_last_nul};

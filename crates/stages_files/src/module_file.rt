@@ -3,7 +3,7 @@ ghost use Rattle.km_course.specs.FollowsOn.{FollowsOnFiles, Returns};
 ghost use Rattle.elf_sections.specs.Shape.{shape_fault};
 ghost use Rattle.stages_files.specs.ModuleFile.{reads_sections, sections_outcome};
 
-use elf_sections::{SectionFault, Sections};
+use elf_sections::{SectionFault, SectionFile};
 use km_course::{Refusal, Stop, read_needed};
 use km_names::{Blob, PathText, is_compressed};
 use outside_calls::Reads;
@@ -14,7 +14,7 @@ pub fn read_sections<F: Reads>(
     alloc: Global,
     path: PathText,
     files: &mut F,
-) -> Result<Sections, Stop>
+) -> Result<SectionFile, Stop>
     ensures { FollowsOnFiles (reads_sections path) F.seen files.old files.new result }
 {
     if is_compressed(&path) {
@@ -25,10 +25,10 @@ pub fn read_sections<F: Reads>(
 }
 
 /// Returns the sections of a module's bytes, or the refusal of the module at the path.
-fn check_sections(alloc: Global, bytes: Blob, path: PathText) -> Result<Sections, Stop>
+fn check_sections(alloc: Global, bytes: Blob, path: PathText) -> Result<SectionFile, Stop>
     ensures { Returns (sections_outcome path bytes (shape_fault bytes)) result }
 {
-    match Sections::read(alloc, bytes) {
+    match SectionFile::read(bytes) {
         Ok(sections) => Ok(sections),
         Err(fault) => match fault {
             SectionFault::Memory => Err(Stop::Memory),

@@ -10,7 +10,7 @@ returns-in-Some c =
     let key = c.in-Some.key.now in
     let shown-so
     = ap (λ bytes. ended (line_end c.args.options.now.zero)
-    (values_of_key key (fields_of bytes))) c.module_info-section.ensures
+    (values_of_key key (fields_of bytes))) c.in_ok-section.ensures
     ∙ shown-by-key c.args.path.now c.args.options.now key _ c.in-Some.ensures in
     subst (λ (t : List ℕ). IfOk c.show_values.result (λ text. text ≡ t)) shown-so
     c.show_values.ensures
