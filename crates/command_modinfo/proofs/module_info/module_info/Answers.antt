@@ -1,3 +1,4 @@
+use Rattle.std.proofs.Common.{ap, ◌∙◌}
 use Rattle.std.specs.Prelude.{codes}
 use Rattle.std.specs.Str.{bytes_eq}
 use Rattle.command_modinfo.specs.ModuleInfo.{bytes_named}
@@ -8,9 +9,11 @@ pub returns-in-Some : goal.returns-in-Some
 unfolding bytes_named
 returns-in-Some c =
     named-found _ _ _ c.in-Some.index _ c.in-Some.ensures.first c.section_bytes.ensures.bytes
+    ∙ ap (bytes_named (codes ".modinfo")) c.in_ok-table.ensures
 
-pub returns-in-None : goal.returns-in-None
+pub returns : goal.returns
 unfolding bytes_named
-returns-in-None c =
-    named-absent (λ s. bytes_eq s.name (codes ".modinfo")) c.args.sections.now.file
-    c.args.sections.now.list c.in-None.ensures.first
+returns c =
+    named-absent (λ s. bytes_eq s.name (codes ".modinfo")) c.in_ok-table.table.file
+    c.in_ok-table.table.list c.in-None.ensures.first
+    ∙ ap (bytes_named (codes ".modinfo")) c.in_ok-table.ensures
