@@ -1,3 +1,5 @@
+// What `modinfo` does: it reads its words, and shows one module after the other.
+
 ghost use Rattle.std.specs.Prelude.{⊤};
 ghost use Rattle.km_course.specs.FollowsOn.{FollowsOnFiles, FollowsOnFilesAndOut, Returns};
 ghost use Rattle.command_modinfo.specs.Modinfo.{modinfo_course, path_asked, reads_source, shows};

@@ -24,7 +24,8 @@ use Rattle.depmod_core.specs.declared.fault.OutputFault.{OutputFault}
 use Rattle.depmod_core.specs.declared.fault.OutputFault.TheVariants.{OutputTooLarge}
 use Rattle.depmod_core.specs.declared.files.OutputFiles.{OutputFiles}
 use Rattle.depmod_core.specs.Dependencies.{dep_text, dep_map}
-use Rattle.stated_texts.specs.Stated.{alias_text, alias_map, softdep_text, symbols_text, symbols_map}
+use Rattle.stated_texts.specs.Stated.{alias_text, alias_map, softdep_text, symbols_text}
+use Rattle.stated_texts.specs.Stated.{symbols_map}
 use Rattle.depmod_core.specs.BuiltIn.{built_in_map}
 
 -- The name of a file, below the folder of the kernel's modules.

@@ -7,7 +7,8 @@ use Rattle.index_format.specs.Holds.{Holds}
 use Rattle.unmet_file.specs.Unmet.{file_text}
 use Rattle.provider_rel.specs.Seen.{closures_by, obstacles_by}
 use Rattle.provider_rel.specs.Tree.{IsTree}
-use Rattle.stated_texts.specs.Stated.{alias_text, alias_map, softdep_text, symbols_text, symbols_map}
+use Rattle.stated_texts.specs.Stated.{alias_text, alias_map, softdep_text, symbols_text}
+use Rattle.stated_texts.specs.Stated.{symbols_map}
 use Rattle.stated_texts.specs.AllStated.{AreAllStated}
 use Rattle.depmod_core.specs.declared.file.OutputFile.{OutputFile}
 use Rattle.depmod_core.specs.declared.file.OutputFile.TheVariants.{Dep, DepBin, Alias, AliasBin}

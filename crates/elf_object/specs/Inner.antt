@@ -34,8 +34,8 @@ pub record HoldsPlacesOf (b : List ℕ) (t i : ℕ) : Type 0 where
   pub applied : is_applied b i ≡ true
   pub target : (section_of b i).info ≡ t
 
--- The section k is the first from `from` on that holds relocations of the section t, or the count of
--- sections if none does.
+-- The section k is the first from `from` on that holds relocations of the section t, or the count
+-- of sections if none does.
 pub record IsNextTable (b : List ℕ) (t from k : ℕ) : Type 0 where
   pub low : from ≤ k
   pub high : k ≤ section_count b

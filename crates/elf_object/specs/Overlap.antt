@@ -54,8 +54,8 @@ count_between low high x = if is_between low high x then 1 else 0
 abbrev pub HasMarks : ChangedBytes → Type 0
 HasMarks c = (x : ℕ) → get_or c.marks.items x 0 ≤ c.mark
 
--- The section's bytes have its mark if they are changed, by so many places each, and `shared` is the
--- least that two change.
+-- The section's bytes have its mark if they are changed, by so many places each, and `shared` is
+-- the least that two change.
 pub record HasChanged (c : ChangedBytes) (count : ℕ → ℕ) : Type 0 where
   pub marked : (x : ℕ) → x < length c.marks.items → get_or c.marks.items x 0 ≡ c.mark → 0 < count x
   pub other : (x : ℕ) → x < length c.marks.items → (get_or c.marks.items x 0 ≡ c.mark → ⊥)

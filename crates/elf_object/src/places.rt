@@ -24,12 +24,12 @@ use elf_sections::{SectionTable, bytes_left};
 use km_names::{FILE_LIMIT, List};
 use std::alloc::{AllocError, Global};
 
-/// The greatest total size of the tables of relocations of which a list is made, in bytes: four times
-/// as many as a file may have. Only tables that share their bytes have more.
+/// The greatest total size of the tables of relocations of which a list is made, in bytes: four
+/// times as many as a file may have. Only tables that share their bytes have more.
 const TABLE_LIMIT: usize = 4 * FILE_LIMIT;
 
-/// The greatest total size of the tables of relocations that are only tested, in bytes: 2^33. No file
-/// under a megabyte has as many, however its tables share their bytes.
+/// The greatest total size of the tables of relocations that are only tested, in bytes: 2^33. No
+/// file under a megabyte has as many, however its tables share their bytes.
 const TESTED_TABLE_LIMIT: usize = 8_589_934_592;
 
 /// Reads the places of a file, by what is known of its symbols, and tests the sections that they

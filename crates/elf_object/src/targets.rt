@@ -21,7 +21,8 @@ impl TargetTables {
     /// Finds the tables of each section.
     pub(crate) fn new(alloc: Global, sections: &SectionTable) -> Result<Self, AllocError>
         requires { TablesFit sections.now.file }
-        ensures { IfOk result (λ t. AreTargetTables sections.now.file t.first.items t.next.items 0) }
+        ensures { IfOk result
+            (λ t. AreTargetTables sections.now.file t.first.items t.next.items 0) }
     {
         let count = sections.section_count();
         let mut first = vec![in alloc; count; count as usize]?;

@@ -12,8 +12,8 @@
 //! Names may share their bytes, so they are added up before they are searched or copied. Together
 //! they have at most 2^32 bytes if they stay in the file, more than any file under a megabyte has,
 //! and at most [`NAME_LIMIT`] if they are copied. Otherwise the answer is out of memory. Time is
-//! linear in the file and those bytes. `string_within` and `up_to_last_nul` keep it so, also for the
-//! tables of other names.
+//! linear in the file and those bytes. `string_within` and `up_to_last_nul` keep it so, also for
+//! the tables of other names.
 //!
 //! The crate uses `elf_format` for the numbers of the format, `km_names` for names and numbers,
 //! `memchr` for the ends of names, and `thiserror` for the error traits. The bytes of sections

@@ -40,8 +40,8 @@ impl<'a> SectionTable<'a> {
     ///
     /// # Errors
     ///
-    /// The same as for [`Sections::read`](crate::Sections::read), but the names, which aren't copied,
-    /// may have 2^32 bytes together. No file under a megabyte has more.
+    /// The same as for [`Sections::read`](crate::Sections::read), but the names, which aren't
+    /// copied, may have 2^32 bytes together. No file under a megabyte has more.
     pub fn read(alloc: Global, bytes: &'a [u8]) -> Result<SectionTable<'a>, SectionFault>
         ensures sections { IfOk result (λ table. table ≡ file_sections bytes.now) }
         ensures read { OnOk result (IsRead bytes.now (sections_of bytes.now)) }

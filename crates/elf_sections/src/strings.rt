@@ -16,13 +16,14 @@ use std::simd::prelude::*;
 const NEAR: usize = 32;
 
 /// The greatest total size, in bytes, of names that a reader copies: of a file's sections, of its
-/// symbols, of its needs, of its exports, or of their namespaces. It is four times as many as a file
-/// may have. Names may share their bytes, so a small file can ask for far more. The names of a real
-/// module together have less than a tenth of this.
+/// symbols, of its needs, of its exports, or of their namespaces. It is four times as many as a
+/// file may have. Names may share their bytes, so a small file can ask for far more. The names of a
+/// real module together have less than a tenth of this.
 pub const NAME_LIMIT: usize = 4 * FILE_LIMIT;
 
-/// The greatest total size, in bytes, of names that a reader leaves where they are and only searches
-/// for their ends: 2^34. No file under a megabyte has as many, however its names share their bytes.
+/// The greatest total size, in bytes, of names that a reader leaves where they are and only
+/// searches for their ends: 2^34. No file under a megabyte has as many, however its names share
+/// their bytes.
 pub const SEARCH_LIMIT: usize = 17_179_869_184;
 
 /// Returns the string at the place `at` of a table, if one is there.

@@ -56,7 +56,8 @@ fn fails(check: Check, found: Option<&Standing>, facts: &Facts, need: &Need) -> 
 
 /// Returns the first need of a module that fails a test.
 fn first_failing<'a>(check: Check, table: &ExportTable, facts: &'a Facts) -> Option<&'a Need>
-    ensures { option_copied result ≡ find (need_fails (test_of check) table.now facts.now) facts.now.needs }
+    ensures { option_copied result
+        ≡ find (need_fails (test_of check) table.now facts.now) facts.now.needs }
 {
     for need in facts.needs.as_slice() {
         let found = table.get(need.name.as_bytes());

@@ -1,5 +1,6 @@
 -- The nodes that a search of matching keys has still to come, after each of its steps.
-use Rattle.std.proofs.Common.{◌≡◌, ◌↔◌, refl, ap, subst, IsTrue, ℕ, ◌+◌, ◌≤◌, ◌<◌, ◌∷◌, List, length}
+use Rattle.std.proofs.Common.{◌≡◌, ◌↔◌, refl, ap, subst, IsTrue, ℕ, ◌+◌, ◌≤◌, ◌<◌, ◌∷◌, List}
+use Rattle.std.proofs.Common.{length}
 use Rattle.std.proofs.Common.{Option, Some, None, arith, length-append}
 use Rattle.index_format.specs.Map.{Value}
 use Rattle.index_nodes.specs.Fields.{link_of, IsNodeOf}
@@ -34,7 +35,8 @@ to_do b s None = 0
 to_do b s (Some f) = count_left b s.levels.items + 1
 
 -- What is still to come after a step, with the values so far.
-pub record Goes (b text : List ℕ) (s : Search) (next : Option FoundNode) (found : List Value) : Type 0
+pub record Goes (b text : List ℕ) (s : Search) (next : Option FoundNode)
+    (found : List Value) : Type 0
   where
     pub is : List Item
     pub going : IsGoing b text s next is

@@ -1,6 +1,7 @@
 -- Values that stand for others, and runs of values that were met.
 use Rattle.std.proofs.Common.{◌≡◌, refl, sym, ap, subst, ◌∙◌, ℕ, zero, suc, ◌<◌, List, [], ◌∷◌}
-use Rattle.std.proofs.Common.{Option, Some, None, drop, ◌++◌, length, append_assoc, append-nil, arith, length-append}
+use Rattle.std.proofs.Common.{Option, Some, None, drop, ◌++◌, length, append_assoc, append-nil}
+use Rattle.std.proofs.Common.{arith, length-append}
 use Rattle.std.proofs.lemmas.List.{get_or_append_left}
 use Rattle.std.proofs.Math.Seq.{get_or-append_seam}
 use Rattle.std.proofs.lemmas.List.Elements.{All-weaker, All-cons, All-nil, All-head, All-tail}
@@ -58,7 +59,8 @@ stand_same vs more = refl
 
 pub stand-more : (few all ws : List Value) → StandFor few all → StandFor (few ++ ws) (all ++ ws)
 stand-more few all ws h more =
-    ap names_of (append_assoc few ws more) ∙ h (ws ++ more) ∙ sym (ap names_of (append_assoc all ws more))
+    ap names_of (append_assoc few ws more) ∙ h (ws ++ more)
+    ∙ sym (ap names_of (append_assoc all ws more))
 
 -- Values that were met before change nothing.
 pub stand_without : (ks xs rest : List Value) → All (IsAmong ks) xs

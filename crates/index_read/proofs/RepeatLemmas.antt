@@ -11,7 +11,8 @@ use Rattle.index_read.specs.Met.{names_of}
 
 -- A list, and the same list without one place of a value that stands before that place too.
 data IsFewer (v : Value) : List Value → List Value → Type 0 where
-  here : (between after : List Value) → IsFewer v (v ∷ (between ++ v ∷ after)) (v ∷ (between ++ after))
+  here : (between after : List Value)
+      → IsFewer v (v ∷ (between ++ v ∷ after)) (v ∷ (between ++ after))
   later : (x : Value) {xs ys : List Value} → IsFewer v xs ys → IsFewer v (x ∷ xs) (x ∷ ys)
 
 -- ---- names
@@ -59,7 +60,8 @@ without : (v : Value) (between after : List Value)
     → filter (is_other v.1) (first_seen (names (between ++ v ∷ after)))
     ≡ filter (is_other v.1) (first_seen (names (between ++ after)))
 without v [] after =
-    ap (λ s. cond (not s) (v.1 ∷ filter (is_other v.1) (filter (is_other v.1) (first_seen (names after))))
+    ap (λ s. cond (not s)
+    (v.1 ∷ filter (is_other v.1) (filter (is_other v.1) (first_seen (names after))))
     (filter (is_other v.1) (filter (is_other v.1) (first_seen (names after)))))
     (nat_list_eq_equiv.refl v.1)
     ∙ filter-twice (is_other v.1) (first_seen (names after))
@@ -261,7 +263,8 @@ again_between v (f ∷ fs) back low =
 
 again : (v : Value) (xs ys : List Value) → IsPlaced v xs ys
     → IsFewer v (insert_first v xs) (insert_first v ys)
-again v xs ys p = rw (p.lacks.long, p.lacks.short) (again_between v p.lacks.front p.lacks.back p.low)
+again v xs ys p =
+    rw (p.lacks.long, p.lacks.short) (again_between v p.lacks.front p.lacks.back p.low)
 
 fewer : (ks : List Value) (v : Value) (ms : List Value) → IsAmong ks v
     → IsFewer v (by_priority (ks ++ v ∷ ms)) (by_priority (ks ++ ms))

@@ -1,3 +1,5 @@
+// The bytes of an index file, node by node.
+
 ghost use Rattle.std.specs.Prelude.{◌≡◌, ℕ, ◌≤◌, ◌<◌, ◌+◌, ◌*◌, ◌^◌, ◌++◌, length, take, drop, map};
 ghost use Rattle.std.specs.Prelude.{slice_index, OnOk, IfOk};
 ghost use Rattle.km_names.specs.Limit.{file_limit};

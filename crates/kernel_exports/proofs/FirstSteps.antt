@@ -1,5 +1,6 @@
 -- The first exports of their names.
-use Rattle.std.proofs.Common.{◌≡◌, true, not, Bool, List, [], ◌∷◌, AllPairs, filter, get_or, ap, sym}
+use Rattle.std.proofs.Common.{◌≡◌, true, not, Bool, List, [], ◌∷◌, AllPairs, filter, get_or, ap}
+use Rattle.std.proofs.Common.{sym}
 use Rattle.std.proofs.Common.{◌∙◌, arith}
 use Rattle.std.proofs.lemmas.Bool.{false≢true}
 use Rattle.std.proofs.lemmas.List.Elements.{filter_passes}

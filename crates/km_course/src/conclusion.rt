@@ -1,3 +1,5 @@
+// The end of a command: its line on err, and its exit status.
+
 ghost use Rattle.std.specs.Prelude.{◌≡◌, ◌++◌, Err, IfOk, OnErr};
 ghost use Rattle.outside_calls.specs.OutSeen.{WriteAnswers};
 ghost use Rattle.km_course.specs.Carries.{Closes, Concludes, IsRefused, SaysOf, WritesLine};

@@ -1,3 +1,5 @@
+// The lines of text files, and of configuration files.
+
 ghost use Rattle.std.specs.Prelude.{◌≡◌, ◌+◌, ◌-◌, ◌<◌, ◌≤◌, ◌++◌, ◌∷◌, [], ℕ, length, IfOk, OnOk};
 ghost use Rattle.std.specs.Prelude.{IsTrue};
 ghost use Rattle.km_names.specs.Limit.{file_limit};
@@ -40,8 +42,8 @@ pub fn conf_lines(alloc: Global, bytes: &[u8]) -> Result<Lines, AllocError>
     Ok(lines)
 }
 
-// A joined line at the start of a text: its text, the number of lines it is made of, and what
-// follows it.
+/// A joined line at the start of a text: its text, the number of lines it is made of, and what
+/// follows it.
 #[derive(Drop)]
 struct Joined<'a> {
     text: Blob,
@@ -86,7 +88,7 @@ fn goes_on(line: &[u8]) -> bool
     line.ends_with(b"\\")
 }
 
-// Puts the line at the end of the lines, trimmed, if it states something.
+/// Puts the line at the end of the lines, trimmed, if it states something.
 fn push_statement(
     alloc: Global,
     lines: &mut Lines,

@@ -59,7 +59,7 @@ pub(crate) fn before_byte(byte: u8, text: &[u8]) -> &[u8]
     }
 }
 
-// Returns the bytes after the last such byte, or all if there is none.
+/// Returns the bytes after the last such byte, or all if there is none.
 fn after_last_byte(byte: u8, text: &[u8]) -> &[u8]
     ensures { result.now ≡ after_last (λ b. b == byte) text.now }
 {
@@ -69,7 +69,7 @@ fn after_last_byte(byte: u8, text: &[u8]) -> &[u8]
     }
 }
 
-// Returns the bytes without the slashes at their end.
+/// Returns the bytes without the slashes at their end.
 fn without_end_slashes(path: &[u8]) -> &[u8]
     ensures { result.now ≡ without_end_slashes path.now }
 {

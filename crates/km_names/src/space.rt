@@ -62,7 +62,7 @@ fn trimmed_start(text: &[u8]) -> &[u8]
     &text[start..]
 }
 
-// Returns the number of bytes before the first white space.
+/// Returns the number of bytes before the first white space.
 fn word_length(text: &[u8]) -> usize
     ensures place { result ≡ position_or_len is_space text.now }
     ensures within { result ≤ length text.now }
@@ -74,7 +74,7 @@ fn word_length(text: &[u8]) -> usize
     end
 }
 
-// Puts a piece at the end, unless it is empty.
+/// Puts a piece at the end, unless it is empty.
 fn push_nonempty(alloc: Global, words: &mut Texts, piece: &[u8]) -> Result<(), AllocError>
     ensures ok { OnOk result (words.new ≡ words.old ++ nonempty (piece.now ∷ [])) }
 {

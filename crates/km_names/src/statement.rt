@@ -1,3 +1,5 @@
+// What the lines of configuration files state.
+
 ghost use Rattle.std.specs.Prelude.{◌≡◌, ◌≤◌, ◌++◌, ◌⊎◌, ℕ, List, Option, length, option_map, All};
 ghost use Rattle.std.specs.Prelude.{IfOk, IfErr, OnOk};
 ghost use Rattle.std.specs.Result.{result_err};
@@ -34,7 +36,7 @@ pub fn parse_files<S: Statement>(alloc: Global, files: &ConfFiles) -> Result<Ite
     Ok(statements)
 }
 
-// Puts the statements of a file at the end.
+/// Puts the statements of a file at the end.
 fn parse_file<S: Statement>(
     alloc: Global,
     file: &ConfFile,

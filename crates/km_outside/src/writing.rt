@@ -4,12 +4,9 @@ ghost use Rattle.std.specs.Prelude.{◌≤◌, ℕ, length, take, MatchResult};
 ghost use Rattle.std.specs.Io.{WritesAtMost};
 ghost use Rattle.std.specs.Io.KnownBytes.{Appends, WriteAppends};
 
-use outside_calls::OutFailed;
+use outside_calls::{OutFailed, RETRIES};
 use std::io;
 use std::io::{ErrorKind, Write};
-
-/// How many times in a row a call that a signal interrupted is repeated.
-const RETRIES: u32 = 1000;
 
 /// Writes all of the bytes. Each turn takes at least one byte, or the write fails; then a first
 /// part of the bytes has been written.

@@ -102,7 +102,7 @@ fn asked_by(
     }
 }
 
-// The choice of what the words leave open or may get wrong.
+/// The choice of what the words leave open or may get wrong.
 #[derive(Clone, Copy)]
 struct Choice<'a> {
     mode: Mode,
@@ -209,7 +209,7 @@ fn words_for(
     })
 }
 
-// The paths that every mode reads.
+/// The paths that every mode reads.
 #[derive(Drop)]
 struct PlanPaths {
     dirname: PathText,
@@ -236,7 +236,7 @@ fn plan_paths(alloc: Global, matches: &ArgMatches<'_>) -> Result<PlanPaths, Allo
     })
 }
 
-// The paths that only a load or a removal needs.
+/// The paths that only a load or a removal needs.
 #[derive(Drop)]
 struct LoadPaths {
     system_map: Option<PathText>,

@@ -1,3 +1,5 @@
+// The modules of a tree: of the paths of one module name the one that the search order prefers.
+
 ghost use Rattle.std.specs.Prelude.{◌≡◌, ◌<◌, ℕ, List, map, All, IfOk, None};
 ghost use Rattle.std.specs.List.{position_or_len};
 ghost use Rattle.mod_tree.specs.Tree.{rank as rank_spec, is_folder_of};

@@ -1,3 +1,5 @@
+// The order of the modules of a tree, by modules.order.
+
 ghost use Rattle.std.specs.Prelude.{◌≡◌, ◌<◌, ℕ, List, map, All, IfOk};
 ghost use Rattle.km_names.specs.Lines.{lines_of};
 ghost use Rattle.mod_tree.specs.Tree.{tree_paths};

@@ -1,3 +1,5 @@
+// The parameters that the fields of a module describe.
+
 ghost use Rattle.std.specs.Prelude.{◌≡◌, ℕ, List, IfOk, OnOk, map, option_map, Some, None};
 ghost use Rattle.std.specs.Prelude.{if◌then◌else◌};
 ghost use Rattle.std.specs.Option.{option_or};
@@ -33,7 +35,7 @@ pub(crate) fn parameter_values(alloc: Global, fields: &FieldList) -> Result<Text
     described_by(alloc, &names, parms.as_slice(), types.as_slice())
 }
 
-// Returns the parameters that any field describes, in the order they are first seen in.
+/// Returns the parameters that any field describes, in the order they are first seen in.
 fn parameter_names<'a>(alloc: Global, fields: &'a FieldList) -> Result<NameSet<'a>, AllocError>
     ensures { IfOk result (λ names. names ≡ parameter_names fields.now) }
 {
@@ -49,7 +51,7 @@ fn parameter_names<'a>(alloc: Global, fields: &'a FieldList) -> Result<NameSet<'
     Ok(names)
 }
 
-// Returns the values of parameters, by the values of the two keys that describe parameters.
+/// Returns the values of parameters, by the values of the two keys that describe parameters.
 fn described_by(
     alloc: Global,
     names: &NameSet<'_>,
@@ -65,7 +67,7 @@ fn described_by(
     described_all(alloc, names, &texts, &kinds)
 }
 
-// Returns for each parameter its description by the first of the values that describes it.
+/// Returns for each parameter its description by the first of the values that describes it.
 fn first_told<'a>(alloc: Global, values: &'a [Blob]) -> Result<Told<'a>, AllocError>
     ensures { IfOk result
         (λ told. (name : List ℕ) → told_in told name ≡ first_told values.now name) }
@@ -78,7 +80,7 @@ fn first_told<'a>(alloc: Global, values: &'a [Blob]) -> Result<Told<'a>, AllocEr
     Ok(told)
 }
 
-// Returns the values of parameters, by their descriptions.
+/// Returns the values of parameters, by their descriptions.
 fn described_all(
     alloc: Global,
     names: &NameSet<'_>,
@@ -98,10 +100,10 @@ fn described_all(
     Ok(values)
 }
 
-// Descriptions of parameters, by the parameters' names.
+/// Descriptions of parameters, by the parameters' names.
 type Told<'a> = IndexMap<NameKey<'a>, &'a [u8], NameHash>;
 
-// Inserts a description under a name, unless the name has one.
+/// Inserts a description under a name, unless the name has one.
 fn keep_first<'a>(told: &mut Told<'a>, name: &'a [u8], rest: &'a [u8]) -> Result<(), AllocError>
     ensures ok { OnOk result ((other : List ℕ) → told_in told.new other
         ≡ option_or (told_in told.old other)
@@ -114,7 +116,7 @@ fn keep_first<'a>(told: &mut Told<'a>, name: &'a [u8], rest: &'a [u8]) -> Result
     Ok(())
 }
 
-// Returns the value of a parameter, by the descriptions of all.
+/// Returns the value of a parameter, by the descriptions of all.
 fn describe_by(
     alloc: Global,
     name: &[u8],
@@ -131,7 +133,7 @@ fn describe_by(
     describe(alloc, name, text, kind)
 }
 
-// Returns the value of a parameter, by its text and its type.
+/// Returns the value of a parameter, by its text and its type.
 fn describe(
     alloc: Global,
     name: &[u8],

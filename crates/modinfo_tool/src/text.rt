@@ -1,3 +1,5 @@
+// The text that modinfo shows of a module.
+
 ghost use Rattle.std.specs.Prelude.{◌≡◌, ◌-◌, ◌++◌, ◌∷◌, [], codes, map, filter, not, IfOk, OnOk};
 ghost use Rattle.std.specs.List.{repeat};
 ghost use Rattle.modinfo_fields.specs.declared.piece.Field.{Field};
@@ -72,7 +74,7 @@ pub fn show_values(
     Ok(text)
 }
 
-// Puts a line with its end at the end.
+/// Puts a line with its end at the end.
 fn push_line(text: &mut Blob, line: &[u8], end: u8) -> Result<(), AllocError>
     ensures { OnOk result (text.new ≡ text.old ++ (line.now ++ end ∷ [])) }
 {
@@ -86,7 +88,7 @@ fn line_end(zero: bool) -> u8
     if zero { 0 } else { b'\n' }
 }
 
-// Returns all lines of a module.
+/// Returns all lines of a module.
 #[tactic(auto, unfolding(crate::specs::Show::all_lines))]
 fn all_text(alloc: Global, path: &PathText, fields: &FieldList, end: u8) -> Result<Blob, AllocError>
     ensures { IfOk result (λ text. text ≡ ended end (all_lines path.now fields.now)) }
@@ -99,7 +101,7 @@ fn all_text(alloc: Global, path: &PathText, fields: &FieldList, end: u8) -> Resu
     Ok(text)
 }
 
-// Puts a line for each field at the end, except those that describe parameters.
+/// Puts a line for each field at the end, except those that describe parameters.
 fn push_fields(text: &mut Blob, fields: &FieldList, end: u8) -> Result<(), AllocError>
     ensures ok { OnOk result (text.new ≡ text.old ++ ended end
         (map (λ (field : Field). labelled field.key field.value)
@@ -115,7 +117,7 @@ fn push_fields(text: &mut Blob, fields: &FieldList, end: u8) -> Result<(), Alloc
     Ok(())
 }
 
-// Puts a line for each parameter at the end.
+/// Puts a line for each parameter at the end.
 fn push_parameters(text: &mut Blob, values: &[Blob], end: u8) -> Result<(), AllocError>
     ensures ok { OnOk result
         (text.new ≡ text.old ++ ended end (map (labelled (codes "parm")) values.now)) }
@@ -126,7 +128,7 @@ fn push_parameters(text: &mut Blob, values: &[Blob], end: u8) -> Result<(), Allo
     Ok(())
 }
 
-// Puts a value under its key at the end, on a line of its own.
+/// Puts a value under its key at the end, on a line of its own.
 fn push_labelled(text: &mut Blob, key: &[u8], value: &[u8], end: u8) -> Result<(), AllocError>
     ensures ok { OnOk result (text.new ≡ text.old ++ (labelled key.now value.now ++ end ∷ [])) }
 {
@@ -146,7 +148,7 @@ fn push_spaces(text: &mut Blob, count: usize) -> Result<(), AllocError>
     Ok(())
 }
 
-// Returns the values under a key.
+/// Returns the values under a key.
 #[tactic(auto, unfolding(crate::specs::Show::values_under))]
 fn values_under(
     alloc: Global,
@@ -167,7 +169,7 @@ fn values_under(
     fields.values_of(alloc, key)
 }
 
-// Returns the lines, each with its end.
+/// Returns the lines, each with its end.
 fn lines_text(alloc: Global, lines: &[Blob], end: u8) -> Result<Blob, AllocError>
     ensures { IfOk result (λ text. text ≡ ended end lines.now) }
 {

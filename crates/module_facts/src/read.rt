@@ -50,9 +50,9 @@ pub fn read_module(alloc: Global, path: &PathText, bytes: Blob) -> Result<Module
 ///
 /// # Errors
 ///
-/// The same as for [`read_module`](crate::read_module), but fewer files are out of memory by a limit.
-/// One under a megabyte is only if the names of its needs, or of its exports, or their namespaces have
-/// more than 268,435,456 bytes together.
+/// The same as for [`read_module`](crate::read_module), but fewer files are out of memory by a
+/// limit. One under a megabyte is only if the names of its needs, or of its exports, or their
+/// namespaces have more than 268,435,456 bytes together.
 #[tactic(auto, unfolding(crate::specs::Faults::fact_fault, crate::specs::Faults::module_tests))]
 pub fn read_facts(alloc: Global, path: &PathText, bytes: &[u8]) -> Result<Facts, ModuleFault>
     requires { length bytes.now ≤ file_limit }

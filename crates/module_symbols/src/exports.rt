@@ -80,10 +80,10 @@ pub fn exports_by(
 }
 
 /// Returns the exports, in the order of the symbols that state them. Names and namespaces may share
-/// their bytes in the file, so a small file can ask for any number of them. If the names together, or
-/// the namespaces together, would have more than `NAME_LIMIT` bytes, the answer is out of memory. It
-/// also is if more than `SEARCH_LIMIT` bytes are searched for the ends of namespaces that have none,
-/// which no file under a megabyte has.
+/// their bytes in the file, so a small file can ask for any number of them. If the names together,
+/// or the namespaces together, would have more than `NAME_LIMIT` bytes, the answer is out of
+/// memory. It also is if more than `SEARCH_LIMIT` bytes are searched for the ends of namespaces
+/// that have none, which no file under a megabyte has.
 #[tactic(auto, unfolding(crate::specs::Exports::exports_of))]
 fn read_exports(
     alloc: Global,

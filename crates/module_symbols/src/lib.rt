@@ -7,9 +7,9 @@
 //! are read into a list with a table of its names. [`named_bytes`] returns the bytes of such
 //! sections.
 //!
-//! Names of symbols may share their bytes in a file, so a small file can have far more of them than it
-//! has bytes. Only the names of needs and of exports are copied, and at most 4,096 bytes of any other
-//! are hashed.
+//! Names of symbols may share their bytes in a file, so a small file can have far more of them than
+//! it has bytes. Only the names of needs and of exports are copied, and at most 4,096 bytes of any
+//! other are hashed.
 //!
 //! The crate uses `elf_object` for symbols and sections, `km_names` for numbers and strings,
 //! `name_table` for tables of names, and `indexmap` for those of the names that symbols state.

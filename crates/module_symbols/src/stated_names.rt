@@ -1,6 +1,7 @@
 // The names that symbols state in a role, each with the first symbol that states it.
 
-ghost use Rattle.std.specs.Prelude.{◌≡◌, ◌<◌, ◌+◌, ◌-◌, ◌^◌, nat_eq, ℕ, List, [], ◌∷◌, ◌++◌, Option};
+ghost use Rattle.std.specs.Prelude.{◌≡◌, ◌<◌, ◌+◌, ◌-◌, ◌^◌, nat_eq, ℕ, List, [], ◌∷◌, ◌++◌};
+ghost use Rattle.std.specs.Prelude.{Option};
 ghost use Rattle.std.specs.Prelude.{Some, None, OnOk, OnErr, option_copied, if◌then◌else◌};
 ghost use Rattle.std.specs.Cmp.Lexicographic.{bytes_decides, pointwise, nat_list_eq_equiv};
 ghost use Rattle.std.specs.Cmp.{partial_equiv_from_equiv, on_per, on_equiv};
@@ -18,8 +19,8 @@ use std::hash::{BuildHasherDefault, Hash, Hasher};
 use std::marker::Model;
 
 /// How many bytes of a name are hashed: all of a shorter one, and half as many from either end of a
-/// longer one, with its length. Names of symbols may share their bytes, so a small file can have far
-/// more of them than it has bytes.
+/// longer one, with its length. Names of symbols may share their bytes, so a small file can have
+/// far more of them than it has bytes.
 pub(crate) const HASHED: usize = 4096;
 
 /// A name that a symbol states, as a key of a table.

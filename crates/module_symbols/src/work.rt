@@ -9,9 +9,9 @@ use km_names::split_at_byte;
 use std::alloc::AllocError;
 
 /// Tests how long it may take to tell the names of the symbols apart. Of each name at most `HASHED`
-/// bytes are hashed, `NAME_LIMIT` together. Longer names that agree in these and in their length are
-/// compared. Names of one length that begin at different places don't overlap, so a look-up of one
-/// compares no more bytes than the long strings of the string table have, and one of each name
+/// bytes are hashed, `NAME_LIMIT` together. Longer names that agree in these and in their length
+/// are compared. Names of one length that begin at different places don't overlap, so a look-up of
+/// one compares no more bytes than the long strings of the string table have, and one of each name
 /// `SEARCH_LIMIT` together. No file under a megabyte has so many.
 ///
 /// # Errors

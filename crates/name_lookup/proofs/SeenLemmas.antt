@@ -26,7 +26,8 @@ fails p y failed (x ∷ xs) =
     ≡ cond (p x) (x ∷ filter p xs) (filter p xs)) [
       | true ↦ λ e.
           let same : x ≡ y = (bytes_eq-Decides x y).0 e in
-          fails p y failed xs ∙ sym (ap (λ t. cond t (x ∷ filter p xs) (filter p xs)) (ap p same ∙ failed))
+          fails p y failed xs
+          ∙ sym (ap (λ t. cond t (x ∷ filter p xs) (filter p xs)) (ap p same ∙ failed))
       | false ↦ λ e. ap (λ l. cond (p x) (x ∷ l) l) (fails p y failed xs)
     ] refl
 
@@ -72,7 +73,8 @@ kept_first rules everywhere n [] (y ∷ ys) after =
 kept_first rules everywhere n (first ∷ rest) l after =
     elim (length first == 0) as
     (λ t. kept rules everywhere
-    (cond t (first_list (n + 1) (rest ++ first_seen l ∷ after)) (record { list = n; names = first }))
+    (cond t (first_list (n + 1) (rest ++ first_seen l ∷ after))
+    (record { list = n; names = first }))
     ≡ kept rules everywhere
     (cond t (first_list (n + 1) (rest ++ l ∷ after)) (record { list = n; names = first }))) [
       | true ↦ kept_first rules everywhere (n + 1) rest l after

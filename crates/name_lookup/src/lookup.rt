@@ -118,10 +118,12 @@ impl<'a> Lookup<'a> {
         }
     }
 
-    /// Finds the first list that isn't empty. The names of modules' own aliases are each in it once.
+    /// Finds the first list that isn't empty. The names of modules' own aliases are each in it
+    /// once.
     fn first_found(&self, alloc: Global, name: &[u8]) -> Result<Found, AllocError>
         ensures { IfOk result
-            (λ f. f ≡ first_list 1 (seen_lists self.now.rules (maps_of self.now.indexes) name.now)) }
+            (λ f. f
+            ≡ first_list 1 (seen_lists self.now.rules (maps_of self.now.indexes) name.now)) }
     {
         let names = self.aliases.names(alloc, name)?;
         if !names.is_empty() {

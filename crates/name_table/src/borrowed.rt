@@ -29,8 +29,8 @@ impl<'a> Model for NameTable<'a> {
         { entries = map (λ e. (e.0.bytes.now, e.1)) t.places.entries; count = t.count } };
 }
 
-// Inserts a name with its place. A name that is already there gets back its old place. So a new
-// name, as most are, is looked up once.
+/// Inserts a name with its place. A name that is already there gets back its old place. So a new
+/// name, as most are, is looked up once.
 fn keep_first<'a>(
     places: &mut IndexMap<NameKey<'a>, u32, NameHash>,
     name: &'a [u8],

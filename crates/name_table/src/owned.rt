@@ -31,7 +31,7 @@ impl Model for OwnedNameTable {
         { entries = map (λ e. (name_of e.0, e.1)) t.places.entries; count = t.count } };
 }
 
-// Inserts a copy of a name with its place, unless the name is already there.
+/// Inserts a copy of a name with its place, unless the name is already there.
 fn keep_first(
     alloc: Global,
     places: &mut IndexMap<OwnedNameKey<'static>, u32, NameHash>,

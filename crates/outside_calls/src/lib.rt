@@ -30,4 +30,5 @@ pub use listing::Listing;
 pub use mem_files::{CallKind, MemFiles};
 pub use mem_out::MemOut;
 pub use out::{Out, OutFailed};
+pub use reading::RETRIES;
 pub use rising::rising_list;

@@ -12,7 +12,7 @@ use std::io;
 use std::io::{ErrorKind, Read};
 
 /// How many times in a row a call that a signal interrupted is repeated.
-const RETRIES: u32 = 1000;
+pub const RETRIES: u32 = 1000;
 
 /// The least room, in bytes, that is made for a file. Some files don't report their length.
 const LEAST_ROOM: usize = 4096;

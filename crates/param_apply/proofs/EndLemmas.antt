@@ -1,6 +1,8 @@
 -- Where strings of an image end.
-use Rattle.std.proofs.Common.{◌≡◌, ◌≤◌, ◌<◌, ◌+◌, ◌-◌, ◌==◌, ◌∙◌, ℕ, Bool, true, false, List, length}
-use Rattle.std.proofs.Common.{Option, Some, None, drop, take, get_or, inl, inr, refl, sym, ap, arith}
+use Rattle.std.proofs.Common.{◌≡◌, ◌≤◌, ◌<◌, ◌+◌, ◌-◌, ◌==◌, ◌∙◌, ℕ, Bool, true, false, List}
+use Rattle.std.proofs.Common.{length}
+use Rattle.std.proofs.Common.{Option, Some, None, drop, take, get_or, inl, inr, refl, sym, ap}
+use Rattle.std.proofs.Common.{arith}
 use Rattle.std.proofs.Common.{Bor}
 use Rattle.std.specs.Prelude.{is_none, nat_le, option_copied, option_map, IfNone, IfSome}
 use Rattle.std.specs.List.{position}

@@ -48,7 +48,8 @@ table-more t f xs i x name within is named table =
     ∙ sym (map_more (λ y. Some (underscored (f y))) xs i x within)) table
 
 -- Names that are the same.
-same-names : (name other : List ℕ) → is_same name other ≡ true → underscored name ≡ underscored other
+same-names : (name other : List ℕ) → is_same name other ≡ true
+    → underscored name ≡ underscored other
 same-names name other is = (bytes_eq-Decides (underscored name) (underscored other)).0 is
 
 first-as : {X : Type 0} (p q : X → Bool) (xs : List X) → ((x : X) → p x ≡ q x)

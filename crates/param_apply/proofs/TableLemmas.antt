@@ -1,6 +1,7 @@
 -- The table of parameters, and its entries.
 use Rattle.std.proofs.Common.{◌≡◌, ◌≤◌, ◌<◌, ◌+◌, ◌*◌, ◌∙◌, ℕ, List, [], ◌∷◌, Option, Some, None}
-use Rattle.std.proofs.Common.{refl, ap, sym, length, map, arith, Bool, Bor, unwrap_or, zero-add, ◌%◌}
+use Rattle.std.proofs.Common.{refl, ap, sym, length, map, arith, Bool, Bor, unwrap_or, zero-add}
+use Rattle.std.proofs.Common.{◌%◌}
 use Rattle.std.specs.Prelude.{is_none, nat_le, not, option_map, slice_get, IfNone, IfSome}
 use Rattle.std.proofs.lemmas.Bool.{eq-eqb, ne_eqb}
 use Rattle.std.specs.List.{range_with_len}

@@ -1,3 +1,5 @@
+// An image with the values that options state for parameters.
+
 ghost use Rattle.std.specs.Prelude.{◌≡◌, ◌<◌, ◌^◌, ◌⊎◌, length, map, None, Some, IfErr, IfOk, OnOk};
 ghost use Rattle.image_layout.specs.Offsets.{image_size};
 ghost use Rattle.param_apply.specs.declared.fault.ParamFault.TheVariants.{Memory};

@@ -1,6 +1,7 @@
 // The words of options, and the parameters that they name.
 
-ghost use Rattle.std.specs.Prelude.{◌≡◌, ◌+◌, ◌-◌, ◌<◌, ◌^◌, ℕ, List, Option, Some, [], ◌∷◌, ◌++◌, map};
+ghost use Rattle.std.specs.Prelude.{◌≡◌, ◌+◌, ◌-◌, ◌<◌, ◌^◌, ℕ, List, Option, Some, [], ◌∷◌, ◌++◌};
+ghost use Rattle.std.specs.Prelude.{map};
 ghost use Rattle.std.specs.Prelude.{length, slice_get, is_some, IfOk, OnOk};
 ghost use Rattle.name_table.specs.NameTable.{IsTableOf, place_of};
 ghost use Rattle.param_apply.specs.Naming.{AreWordNames, kept_name, parameters_of};

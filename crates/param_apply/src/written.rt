@@ -40,13 +40,16 @@ pub(crate) fn written(
     requires table { table ≡ table_of object.now }
     requires numbers { All (λ s. s.number < length (parameters_of params.now)) settings.now }
     ensures image { IfOk result
-        (λ p. p.image ≡ with_pieces image.now (map (piece (parameters_of params.now)) settings.now)) }
-    ensures count { IfOk result (λ p. p.count ≡ named_count (parameters_of params.now) settings.now) }
+        (λ p. p.image
+        ≡ with_pieces image.now (map (piece (parameters_of params.now)) settings.now)) }
+    ensures count { IfOk result
+        (λ p. p.count ≡ named_count (parameters_of params.now) settings.now) }
     ensures passed { OnOk result
         (words_fault object.now (parameters_of params.now) (length image.now) settings.now ≡ None) }
     ensures fault { IfErr result
         (λ e. (e ≡ Memory)
-        ⊎ (words_fault object.now (parameters_of params.now) (length image.now) settings.now ≡ Some e)) }
+        ⊎ (words_fault object.now (parameters_of params.now) (length image.now) settings.now
+        ≡ Some e)) }
 {
     let mut copy = copied(alloc, image)?;
     let taken = reserved(alloc, object, table, image.len())?;
@@ -91,7 +94,8 @@ fn write(
         ≡ with_bytes image.old (piece (parameters_of params.now) setting.now).at
         (piece (parameters_of params.now) setting.now).bytes) }
     ensures inside { OnOk result
-        ((piece (parameters_of params.now) setting.now).at + length (piece (parameters_of params.now) setting.now).bytes
+        ((piece (parameters_of params.now) setting.now).at
+        + length (piece (parameters_of params.now) setting.now).bytes
         ≤ length image.old) }
     ensures claims { OnOk result ((o : FileObject) (done : List Setting)
         → AreClaims claims.old o (parameters_of params.now) done
@@ -101,7 +105,8 @@ fn write(
         → setting_fault o (parameters_of params.now) (length image.old) done setting.now ≡ None) }
     ensures fault { IfErr result (λ e. (e ≡ Memory) ⊎ ((o : FileObject) (done : List Setting)
         → AreClaims claims.old o (parameters_of params.now) done
-        → setting_fault o (parameters_of params.now) (length image.old) done setting.now ≡ Some e)) }
+        → setting_fault o (parameters_of params.now) (length image.old) done setting.now
+        ≡ Some e)) }
 {
     let param = params.get(alloc, setting.number)?;
     let value = value_of(alloc, &param, setting)?;

@@ -36,7 +36,7 @@ pub(crate) fn rising(alloc: Global, items: &[usize]) -> Result<Vec<usize>, Alloc
     sorted.iter().copied().collect(alloc)
 }
 
-// Finds for each member the places, among the members, of the members that it goes to.
+/// Finds for each member the places, among the members, of the members that it goes to.
 fn lists_among(
     alloc: Global,
     lists: &[Vec<usize>],
@@ -55,7 +55,7 @@ fn lists_among(
     Ok(inner)
 }
 
-// Returns the items at some places.
+/// Returns the items at some places.
 fn at_places(alloc: Global, items: &[usize], places: &[usize]) -> Result<Vec<usize>, AllocError>
     requires { All (λ i. i < length items.now) places.now }
     ensures { IfOk result (λ found. found.items ≡ map (slice_index items.now) places.now) }
@@ -74,7 +74,7 @@ fn sorted_set(alloc: Global, items: &[usize]) -> Result<BTreeSet<usize>, AllocEr
     Ok(sorted)
 }
 
-// Finds the places, among the members, of the items that are members.
+/// Finds the places, among the members, of the items that are members.
 fn places_of(alloc: Global, members: &[usize], items: &[usize]) -> Result<Vec<usize>, AllocError>
     requires { Rises members.now }
     ensures inside { IfOk result (λ places. All (λ i. i < length members.now) places.items) }
@@ -91,7 +91,7 @@ fn places_of(alloc: Global, members: &[usize], items: &[usize]) -> Result<Vec<us
     Ok(places)
 }
 
-// Finds the place of an item among rising members.
+/// Finds the place of an item among rising members.
 fn place_of(members: &[usize], item: usize) -> Option<usize>
     requires { Rises members.now }
     ensures { IsPlaceIn members.now item result }

@@ -23,7 +23,7 @@ pub(crate) struct Groups {
     pub(crate) order: Vec<usize>,
 }
 
-// Finds the members of a request's group, after those that were found before.
+/// Finds the members of a request's group, after those that were found before.
 fn find_group(
     seen: &mut Vec<bool>,
     found: &mut Vec<usize>,

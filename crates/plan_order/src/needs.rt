@@ -85,7 +85,7 @@ pub fn find_planned<N: Needs>(
     })
 }
 
-// Finds the requested modules that are free.
+/// Finds the requested modules that are free.
 fn find_requested(
     marks: &mut Vec<bool>,
     found: &mut Vec<usize>,
@@ -106,7 +106,7 @@ fn find_requested(
     Ok(())
 }
 
-// Makes a number of empty lists.
+/// Makes a number of empty lists.
 fn empty_lists(alloc: Global, count: usize) -> Result<Vec<Vec<usize>>, AllocError>
     ensures long { IfOk result (λ lists. length lists.items ≡ count) }
     ensures inside { IfOk result (λ lists. Inside count lists.items) }

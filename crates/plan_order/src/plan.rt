@@ -77,7 +77,7 @@ fn order_or_cycle(
     Ok(OrderOrCycle::Cycle(named_cycle(alloc, lists, marks)?))
 }
 
-// Makes the plan, if nothing planned comes before itself.
+/// Makes the plan, if nothing planned comes before itself.
 fn plan_without_cycle(
     alloc: Global,
     before: &[Vec<usize>],

@@ -43,7 +43,8 @@ lookup-more : (other : List ℕ) (lists : PlaceLists) (k : NameKey) (v : Vec ℕ
     → list_for other (lists ++ (k, v) ∷ [])
     ≡ unwrap_or (option_map (λ w. Some w) o) (cond (bytes_eq other k.bytes.now) (Some v) None)
 lookup-more other [] k v o is =
-    ap (λ p. unwrap_or (option_map (λ w. Some w) p) (cond (bytes_eq other k.bytes.now) (Some v) None)) is
+    ap (λ p. unwrap_or (option_map (λ w. Some w) p)
+    (cond (bytes_eq other k.bytes.now) (Some v) None)) is
 lookup-more other (e ∷ lists) k v o is =
     by (bytes_eq other e.0.bytes.now) is (lookup-more other lists k v o)
   where
@@ -182,7 +183,8 @@ module _ (s : Sources) (lists : PlaceLists) (is : IsSoftTable s (all_soft_names 
 
     -- for names of soft dependencies, the modules that they stand for and that can be loaded
     pub soft-given : (x : ℕ) (names : List (List ℕ)) → AreSoftNames s.rules names
-        → filter (λ y. not (y == x)) (flat_map (λ name. unwrap_or (kept_places lists name) []) names)
+        → filter (λ y. not (y == x))
+        (flat_map (λ name. unwrap_or (kept_places lists name) []) names)
         ≡ soft_places s x names
     soft-given x names are =
         ap (filter (λ y. not (y == x)))

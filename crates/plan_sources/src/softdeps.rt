@@ -17,8 +17,8 @@ use std::hash::BuildHasherDefault;
 /// For each of some names the modules that it stands for and that can be loaded.
 pub(crate) type SoftLists<'a> = IndexMap<NameKey<'a>, Vec<usize>, NameHash>;
 
-/// Lists the modules of all names that soft dependencies have. Each name is looked up once, and each
-/// module asked once whether it can be loaded.
+/// Lists the modules of all names that soft dependencies have. Each name is looked up once, and
+/// each module asked once whether it can be loaded.
 pub(crate) fn soft_lists<'a>(
     alloc: Global,
     planner: &Planner<'a>,

@@ -14,7 +14,7 @@ ghost use Rattle.relation_order.specs.Rows.{has_mark, marked_in, row_at, AreReac
 use std::alloc::{AllocError, Global};
 use std::marker::Model;
 
-// How many marks a word of a row has.
+/// How many marks a word of a row has.
 const WORD_BITS: usize = 64;
 
 /// The closures of all items: what walks reach from each, in the least order. Contracts see them as
@@ -82,7 +82,7 @@ impl Closures {
     }
 }
 
-// Makes as many rows, without a mark, and without room for one.
+/// Makes as many rows, without a mark, and without room for one.
 fn empty_rows(alloc: Global, count: usize) -> Result<Vec<Vec<u64>>, AllocError>
     ensures long { IfOk result (λ rows. length rows.items ≡ count) }
     ensures empty { IfOk result (λ rows. All (λ row. row.items ≡ []) rows.items) }
@@ -94,15 +94,15 @@ fn empty_rows(alloc: Global, count: usize) -> Result<Vec<Vec<u64>>, AllocError>
     Ok(rows)
 }
 
-// Makes a row without a mark, with room for a mark for each of as many items.
+/// Makes a row without a mark, with room for a mark for each of as many items.
 fn unmarked_row(alloc: Global, count: usize) -> Result<Vec<u64>, AllocError>
     ensures { IfOk result (λ row. row.items ≡ replicate (div_ceil count 64) 0) }
 {
     vec![in alloc; 0; count.div_ceil(WORD_BITS)]
 }
 
-// Makes the row of what is reached from an item, by the rows of those that it goes to. One that is
-// reached already isn't added again.
+/// Makes the row of what is reached from an item, by the rows of those that it goes to. One that is
+/// reached already isn't added again.
 fn row_of(
     alloc: Global,
     lists: &[Vec<usize>],
@@ -135,7 +135,7 @@ fn row_of(
     Ok(row)
 }
 
-// Returns whether an item is marked.
+/// Returns whether an item is marked.
 fn is_marked(row: &[u64], item: usize) -> bool
     ensures { result ≡ has_mark row.now item }
 {
@@ -145,7 +145,7 @@ fn is_marked(row: &[u64], item: usize) -> bool
     }
 }
 
-// Marks an item.
+/// Marks an item.
 fn mark(row: &mut Vec<u64>, item: usize)
     requires { item / 64 < length row.old.items }
     ensures long { length row.new.items ≡ length row.old.items }
@@ -154,7 +154,7 @@ fn mark(row: &mut Vec<u64>, item: usize)
     row[item / WORD_BITS] |= 1 << (item % WORD_BITS);
 }
 
-// Marks an item, and all that are marked in another row.
+/// Marks an item, and all that are marked in another row.
 fn add_row(row: &mut Vec<u64>, other: &[u64], item: usize)
     requires long { length other.now ≤ length row.old.items }
     requires item { item / 64 < length row.old.items }
@@ -166,7 +166,7 @@ fn add_row(row: &mut Vec<u64>, other: &[u64], item: usize)
     add_marks(row, other);
 }
 
-// Marks all that are marked in another row.
+/// Marks all that are marked in another row.
 fn add_marks(row: &mut Vec<u64>, other: &[u64])
     requires { length other.now ≤ length row.old.items }
     ensures long { length row.new.items ≡ length row.old.items }
@@ -178,7 +178,7 @@ fn add_marks(row: &mut Vec<u64>, other: &[u64])
     }
 }
 
-// Lists the items of an order that are marked in one of the rows.
+/// Lists the items of an order that are marked in one of the rows.
 fn marked_anywhere(
     alloc: Global,
     rows: &[Vec<u64>],
@@ -197,7 +197,7 @@ fn marked_anywhere(
     marked_items(alloc, order, &all)
 }
 
-// Lists the marked items of an order.
+/// Lists the marked items of an order.
 fn marked_items(alloc: Global, order: &[usize], row: &[u64]) -> Result<Vec<usize>, AllocError>
     ensures { IfOk result (λ found. found.items ≡ filter (has_mark row.now) order.now) }
 {
@@ -208,7 +208,7 @@ fn marked_items(alloc: Global, order: &[usize], row: &[u64]) -> Result<Vec<usize
         .collect(alloc)
 }
 
-// Counts the marked items.
+/// Counts the marked items.
 fn count_marks(row: &[u64]) -> u64
     requires { length row.now < 2 ^ 32 }
     ensures { result ≡ length (filter (has_mark row.now) (below (64 * length row.now))) }

@@ -81,7 +81,7 @@ impl CycleSearch {
         Ok(())
     }
 
-    // Looks at the next step of the item at a place, or leaves the item if it has no further step.
+    /// Looks at the next step of the item at a place, or leaves the item if it has no further step.
     fn step(&mut self, graph: &Graph<'_>, at: usize) -> Result<(), AllocError>
         requires search { SearchOf graph.now.lists.now graph.now.members.now self.old
             (self.old.path.items ++ at ∷ []) }
@@ -105,7 +105,7 @@ impl CycleSearch {
         }
     }
 
-    // Looks at a step from the item at the last place of the path to another item.
+    /// Looks at a step from the item at the last place of the path to another item.
     fn look(&mut self, members: &[bool], at: usize, target: usize) -> Result<(), AllocError>
         requires at { at < length self.old.stack.items }
         requires last { EndsIn self.old.path.items at }
@@ -133,7 +133,7 @@ impl CycleSearch {
         Ok(())
     }
 
-    // Makes an item the last open one, with a component of its own.
+    /// Makes an item the last open one, with a component of its own.
     fn enter(&mut self, item: usize) -> Result<(), AllocError>
         requires { item < length self.old.states.items }
         ensures { OnOk result (Enters self.old self.new item) }
@@ -146,8 +146,8 @@ impl CycleSearch {
         Ok(())
     }
 
-    // Leaves the item at a place, after all its steps have been looked at. If its component begins
-    // with it, that component is whole.
+    /// Leaves the item at a place, after all its steps have been looked at. If its component begins
+    /// with it, that component is whole.
     fn leave(&mut self, lists: &[Vec<usize>], at: usize)
         requires at { at < length self.old.stack.items }
         requires within { All (λ x. x < length lists.now) self.old.stack.items }
@@ -183,14 +183,14 @@ impl CycleSearch {
     }
 }
 
-// Makes the states of as many items that weren't met.
+/// Makes the states of as many items that weren't met.
 fn new_states(alloc: Global, count: usize) -> Result<Vec<State>, AllocError>
     ensures { IfOk result (λ states. states.items ≡ replicate count State.New) }
 {
     vec![in alloc; State::New; count]
 }
 
-// Returns whether a list ends in a number.
+/// Returns whether a list ends in a number.
 fn ends_in(items: &[usize], item: usize) -> bool
     ensures { result ≡ (nat_lt 0 (length items.now)
         && nat_eq (slice_index items.now (length items.now - 1)) item) }
@@ -201,7 +201,7 @@ fn ends_in(items: &[usize], item: usize) -> bool
     }
 }
 
-// Drops the last of rising numbers, as long as they are above another.
+/// Drops the last of rising numbers, as long as they are above another.
 fn drop_above(starts: &mut Vec<usize>, place: usize)
     ensures { DropsAbove starts.old.items starts.new.items place }
 {
@@ -212,8 +212,8 @@ fn drop_above(starts: &mut Vec<usize>, place: usize)
     starts.truncate(count);
 }
 
-// Finishes the component that is made of the open items from a place on. Each of them lies on a
-// cycle if it has another beside it, or goes to itself.
+/// Finishes the component that is made of the open items from a place on. Each of them lies on a
+/// cycle if it has another beside it, or goes to itself.
 fn finish(states: &mut Vec<State>, stack: &[usize], lists: &[Vec<usize>], from: usize)
     requires from { from < length stack.now }
     requires within { All (λ x. x < length lists.now) stack.now }

@@ -38,7 +38,7 @@ pub(crate) fn distances_to(
     Ok(far)
 }
 
-// Lists for each item the items among some that go to it.
+/// Lists for each item the items among some that go to it.
 fn reversed(
     alloc: Global,
     graph: &Graph<'_>,
@@ -56,7 +56,7 @@ fn reversed(
     Ok(sources)
 }
 
-// Adds an item to the lists of all that it goes to.
+/// Adds an item to the lists of all that it goes to.
 fn add_source(
     sources: &mut Vec<Vec<usize>>,
     targets: &[usize],
@@ -73,15 +73,15 @@ fn add_source(
     Ok(())
 }
 
-// Makes a list of a value, a number of times.
+/// Makes a list of a value, a number of times.
 fn filled(alloc: Global, count: usize, value: usize) -> Result<Vec<usize>, AllocError>
     ensures { IfOk result (λ list. list.items ≡ replicate count value) }
 {
     vec![in alloc; value; count]
 }
 
-// Does one round: each item without a distance that goes to one found last gets the round's number.
-// Returns what was found.
+/// Does one round: each item without a distance that goes to one found last gets the round's
+/// number. Returns what was found.
 fn find_round(
     alloc: Global,
     sources: &[Vec<usize>],
@@ -105,7 +105,7 @@ fn find_round(
     Ok(found)
 }
 
-// Gives each of some items without a distance the round's number, and adds it to what was found.
+/// Gives each of some items without a distance the round's number, and adds it to what was found.
 fn find_all(
     items: &[usize],
     far: &mut Vec<usize>,

@@ -100,7 +100,7 @@ impl OrderBuilder {
         Ok(())
     }
 
-    // Finds for an item whether it is ready or for which place it waits.
+    /// Finds for an item whether it is ready or for which place it waits.
     fn place(&mut self, graph: &Graph<'_>, item: usize) -> Result<(), AllocError>
         requires within { item < length graph.now.members.now }
         requires fits { Fits graph.now.lists.now graph.now.members.now self.old }
@@ -180,7 +180,7 @@ pub(crate) fn empty_lists(alloc: Global, count: usize) -> Result<Vec<Vec<usize>>
     Ok(lists)
 }
 
-// Takes the list at a place.
+/// Takes the list at a place.
 fn take_at(alloc: Global, lists: &mut Vec<Vec<usize>>, place: usize) -> Vec<usize>
     requires { place < length lists.old.items }
     ensures long { length lists.new.items ≡ length lists.old.items }
@@ -191,8 +191,8 @@ fn take_at(alloc: Global, lists: &mut Vec<Vec<usize>>, place: usize) -> Vec<usiz
     mem::replace(&mut lists[place], Vec::new(alloc))
 }
 
-// Finds the place of the first of some items that is a member and isn't listed, or how many items
-// there are. It looks from a place on, and there is none before that.
+/// Finds the place of the first of some items that is a member and isn't listed, or how many items
+/// there are. It looks from a place on, and there is none before that.
 fn first_open(items: &[usize], from: usize, members: &[bool], listed: &[bool]) -> usize
     requires in_members { All (λ y. y < length members.now) items.now }
     requires in_listed { All (λ y. y < length listed.now) items.now }
@@ -211,7 +211,7 @@ fn first_open(items: &[usize], from: usize, members: &[bool], listed: &[bool]) -
     at
 }
 
-// Returns whether an item is marked as a member and not as listed.
+/// Returns whether an item is marked as a member and not as listed.
 fn is_open(members: &[bool], listed: &[bool], item: usize) -> bool
     requires member { item < length members.now }
     requires listed { item < length listed.now }

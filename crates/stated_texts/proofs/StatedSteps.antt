@@ -21,7 +21,8 @@ use Rattle.stated_texts.specs.declared.stated.StatedKind.TheVariants.{Alias, Sof
 use Rattle.stated_texts.specs.Lines.{ended, lines_text}
 use Rattle.stated_texts.specs.Maps.{map_of}
 use Rattle.stated_texts.specs.Stated.{is_usable_alias, aliases_of, symbols_of, alias_values}
-use Rattle.stated_texts.specs.Stated.{alias_text, softdep_text, symbols_text, alias_map, symbols_map}
+use Rattle.stated_texts.specs.Stated.{alias_text, softdep_text, symbols_text, alias_map}
+use Rattle.stated_texts.specs.Stated.{symbols_map}
 use Rattle.stated_texts.specs.Stated.{symbol_values}
 use Rattle.stated_texts.specs.Kinds.{heading, key_of, statement, statements, texts_of, text_of}
 use Rattle.stated_texts.specs.Kinds.{map_by, map_for, values_with, values_by}

@@ -83,8 +83,8 @@ impl<'a> AllStated<'a> {
     }
 }
 
-/// Puts the text of a kind's file: a heading, and the lines of each module. The only error is out of
-/// memory. depmod(8).
+/// Puts the text of a kind's file: a heading, and the lines of each module. The only error is out
+/// of memory. depmod(8).
 pub fn put_stated_text(
     text: &mut Text,
     kind: StatedKind,

@@ -47,8 +47,8 @@ const FAILS: TreeRow<'static> = TreeRow {
     ..INDEXED
 };
 
-/// The calls before the loads in their order, each counted from the first call of its kind, of which
-/// some were depmod's.
+/// The calls before the loads in their order, each counted from the first call of its kind, of
+/// which some were depmod's.
 static CALLS: [TreeRow<'static>; 13] = [
     TreeRow {
         failing: Failing::Call(CallKind::ListConf, 5),

@@ -176,9 +176,9 @@ const FILE_SYSTEM_LOAD: RowOf<'static> = (
     "",
 );
 
-/// The load of a file system with two helpers, over a kernel of 40 names. Both images are whole: that
-/// of `jbd2` has the address of one of the kernel's, and that of `ext4` the addresses of what two
-/// helpers export, and the way to one of the kernel's.
+/// The load of a file system with two helpers, over a kernel of 40 names. Both images are whole:
+/// that of `jbd2` has the address of one of the kernel's, and that of `ext4` the addresses of what
+/// two helpers export, and the way to one of the kernel's.
 static FILE_SYSTEM_TREE: TreeRow<'static> = TreeRow {
     name: "a file system is loaded",
     modules: FILE_SYSTEM,

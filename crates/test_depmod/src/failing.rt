@@ -1,5 +1,5 @@
-// Calls on files and writes that fail, each in turn. The files that were replaced before are new, and
-// all others are as they were.
+// Calls on files and writes that fail, each in turn. The files that were replaced before are new,
+// and all others are as they were.
 use crate::indexes::{PRINTK_MISSING, TWO_MODULES};
 use crate::rows::{DONE, KEPT};
 use outside_calls::CallKind;

@@ -1,6 +1,5 @@
-//! Tests of whole runs of `depmod`, and of the commands that look names up in the files of an index:
-//! `builtin-alias`, `static-nodes`, `modprobe -R` and `modinfo -k`. Each runs over files and outputs
-//! in memory.
+//! Tests of whole runs of `depmod`, and of the commands that look names up in what `depmod --extra`
+//! adds: `builtin-alias` and `static-nodes`. Each runs over files and outputs in memory.
 //!
 //! It builds on `kmod_cli` for the commands, on `test_rows` for rows of whole commands, and on
 //! `test_objects` for modules.
@@ -22,10 +21,6 @@ mod failing;
 mod indexes;
 #[cfg(test)]
 mod indexing;
-#[cfg(test)]
-mod modinfo_names;
-#[cfg(test)]
-mod modprobe_names;
 #[cfg(test)]
 mod rows;
 #[cfg(test)]

@@ -9,7 +9,7 @@ use std::alloc::{AllocError, Global};
 use std::process::Abort;
 use test_objects::{RowFault, conf_file};
 
-// Returns the two files `0` and `1`.
+/// Returns the two files `0` and `1`.
 fn files_of(alloc: Global, first: &[u8], second: &[u8]) -> Result<ConfFiles, RowFault>
     ensures { IfOk result (λ files. All (λ file. length file.bytes ≤ file_limit) files) }
 {
@@ -27,7 +27,7 @@ fn put_names(names: &Names, text: &mut Vec<u8>) -> Result<(), AllocError> {
     Ok(())
 }
 
-// Puts a rule as a line of its own.
+/// Puts a rule as a line of its own.
 fn put_rule(rule: &Rule, text: &mut Vec<u8>) -> Result<(), AllocError> {
     let (kind, name, rest) = match rule {
         Rule::Alias { pattern, name } => (b"alias ".as_slice(), name, pattern.as_bytes()),
@@ -88,7 +88,7 @@ static RULES_READ: &[u8] = b"alias snd_hda|pci_x[a-b]*\n\
     remove a|/bin/false -x\n\
     softdep m| gone a_v[_] zed/ late\n";
 
-// Reads the rules of two files.
+/// Reads the rules of two files.
 fn rules_of(
     rt: &impl Abort,
     alloc: Global,
@@ -99,7 +99,7 @@ fn rules_of(
     parse(alloc, &files)
 }
 
-// Compares the file and the number of the first bad line of two files.
+/// Compares the file and the number of the first bad line of two files.
 fn expect_bad_line(
     rt: &impl Abort,
     alloc: Global,

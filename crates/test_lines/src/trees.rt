@@ -26,13 +26,13 @@ fn file_of(alloc: Global, text: &[u8]) -> Result<ConfFiles, RowFault>
     Ok(files)
 }
 
-// Reads the search list of a file.
+/// Reads the search list of a file.
 fn search_of(rt: &impl Abort, alloc: Global, text: &[u8]) -> Result<Search, ConfFault> {
     let files = file_of(alloc, text).expect(rt, "a file");
     parse_search(alloc, &files)
 }
 
-// Returns each item on a line of its own: of the tree that is chosen, or the bad path.
+/// Returns each item on a line of its own: of the tree that is chosen, or the bad path.
 fn chosen(rt: &impl Abort, alloc: Global, paths: &Paths, order: &[u8], search: &Search) -> Vec<u8> {
     match choose(alloc, paths, order, search) {
         Ok(tree) => lines_of(alloc, &tree).expect(rt, "lines"),
@@ -42,7 +42,7 @@ fn chosen(rt: &impl Abort, alloc: Global, paths: &Paths, order: &[u8], search: &
     }
 }
 
-// Returns each item on a line of its own.
+/// Returns each item on a line of its own.
 fn lines_of<K>(alloc: Global, items: &List<Bytes<K>>) -> Result<Vec<u8>, AllocError> {
     let mut text = Vec::new(alloc);
     for item in items.as_slice() {
@@ -94,7 +94,7 @@ static BAD_PATHS: [[&[u8]; 3]; 2] = [
     [b"z/\x7f.ko", b"kernel/a:.ko.gz", b"kernel/a.ko"],
 ];
 
-// Compares what is chosen of a listing by a text of depmod.d and a modules.order.
+/// Compares what is chosen of a listing by a text of depmod.d and a modules.order.
 fn expect_chosen(
     rt: &impl Abort,
     alloc: Global,
@@ -139,14 +139,14 @@ static BAD_SEARCHES: [&[u8]; 3] = [
     b"\nalias a b",
 ];
 
-// Compares a search list.
+/// Compares a search list.
 fn expect_search(rt: &impl Abort, alloc: Global, text: &[u8], want: &[u8]) {
     let search = search_of(rt, alloc, text).expect(rt, "a search list");
     let lines = lines_of(alloc, &search).expect(rt, "lines");
     same(rt, lines.as_slice(), want);
 }
 
-// Checks that the second line is the first bad one.
+/// Checks that the second line is the first bad one.
 fn expect_bad_search(rt: &impl Abort, alloc: Global, text: &[u8]) {
     match search_of(rt, alloc, text) {
         Err(ConfFault::BadLine { file, line }) => {

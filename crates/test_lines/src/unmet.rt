@@ -29,14 +29,14 @@ static TEXTS: [(&[u8], u32); 12] = [
     (b"double a b c\nnamespace a b c\nDouble a b c\nx", 3),
 ];
 
-// Reads the lines of a text.
+/// Reads the lines of a text.
 fn read(rt: &impl Abort, alloc: Global, text: &[u8]) -> Result<Unmet, ConfFault> {
     let file = PathText::from_slice(alloc, b"/m/modules.unmet").expect(rt, "a path");
     assert!(rt; text.len() <= 67_108_864);
     Unmet::read(alloc, &file, text)
 }
 
-// Returns the number of the first bad line of a text, or 0 where all are good.
+/// Returns the number of the first bad line of a text, or 0 where all are good.
 fn bad_line(rt: &impl Abort, alloc: Global, text: &[u8]) -> u32 {
     match read(rt, alloc, text) {
         Ok(_) => 0,
@@ -45,7 +45,7 @@ fn bad_line(rt: &impl Abort, alloc: Global, text: &[u8]) -> u32 {
     }
 }
 
-// Checks that the last of five lines is of two exports.
+/// Checks that the last of five lines is of two exports.
 fn expect_each_form(rt: &impl Abort, unmet: &Unmet) {
     same_length(rt, unmet.len(), 5);
     let Some(

@@ -45,7 +45,7 @@ fn owned(rt: &impl Abort, alloc: Global) -> OwnedNameTable {
     table
 }
 
-// Checks that a table with room is empty.
+/// Checks that a table with room is empty.
 fn expect_empty(rt: &impl Abort, alloc: Global) {
     let roomy = NameTable::with_capacity(alloc, 4).expect(rt, "a table");
     assert!(rt; roomy.place(b"printk").is_none());

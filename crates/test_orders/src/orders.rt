@@ -6,7 +6,7 @@ use relation_order::{Closures, OrderOrCycle, all_members, order_or_cycle, reacha
 use std::alloc::{AllocError, Global};
 use std::process::Abort;
 
-// Returns as many lists. Each pair adds its second to the list of its first, if both are items.
+/// Returns as many lists. Each pair adds its second to the list of its first, if both are items.
 fn lists(
     alloc: Global,
     count: usize,
@@ -39,7 +39,7 @@ fn list(
     Ok(list)
 }
 
-// How many items, which go to which, and the order or the cycle.
+/// How many items, which go to which, and the order or the cycle.
 static ROWS: [(usize, &[(usize, usize)], bool, &[usize]); 6] = [
     (0, &[], true, &[]),
     (
@@ -66,7 +66,7 @@ fn same(rt: &impl Abort, got: &[usize], want: &[usize]) {
     assert_eq!(rt; got, want);
 }
 
-// Returns the order or the cycle of the lists of a row.
+/// Returns the order or the cycle of the lists of a row.
 fn found(rt: &impl Abort, alloc: Global, count: usize, pairs: &[(usize, usize)]) -> OrderOrCycle {
     let Ok(lists) = lists(alloc, count, pairs) else {
         panic!(rt; "no memory");
@@ -80,7 +80,7 @@ fn found(rt: &impl Abort, alloc: Global, count: usize, pairs: &[(usize, usize)])
     }
 }
 
-// Compares an order or a cycle.
+/// Compares an order or a cycle.
 fn expect_found(rt: &impl Abort, found: &OrderOrCycle, ordered: bool, want: &[usize]) {
     match found {
         OrderOrCycle::Order(order) => {
@@ -113,8 +113,8 @@ fn expect_reachable(rt: &impl Abort, alloc: Global) {
     same(rt, found.as_slice(), &[0, 2, 3]);
 }
 
-// What each item of the second row reaches, in the order in which each follows those that it goes
-// to.
+/// What each item of the second row reaches, in the order in which each follows those that it goes
+/// to.
 static CLOSURES: [&[usize]; 6] = [&[2, 1, 3], &[2], &[], &[2], &[2, 1, 3, 0], &[]];
 
 fn expect_closures(rt: &impl Abort, alloc: Global) {

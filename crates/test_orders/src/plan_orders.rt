@@ -1,11 +1,13 @@
+// Tests of the orders of plans, and of their cycles.
+
 ghost use Rattle.std.specs.Prelude.{◌-◌, ◌==◌, ◌∷◌, [], if◌then◌else◌};
 
 use plan_order::{Needed, Needs, PlanOrCycle, find_planned, plan_or_cycle};
 use std::alloc::{AllocError, Global};
 use std::process::Abort;
 
-// Modules in a ring. Before each comes the one of the number below, before 0 the last. After each
-// comes the one that is as far from the last as it is from 0.
+/// Modules in a ring. Before each comes the one of the number below, before 0 the last. After each
+/// comes the one that is as far from the last as it is from 0.
 #[derive(Drop)]
 struct Ring {
     count: usize,
@@ -31,8 +33,8 @@ impl Needs for Ring {
     }
 }
 
-// Which of a ring are free, which one is requested, and the order with the end of its group, or the
-// cycle.
+/// Which of a ring are free, which one is requested, and the order with the end of its group, or
+/// the cycle.
 static ROWS: [(&[bool], usize, &[usize], Option<usize>); 4] = [
     // 3 needs 2, which is loaded, and asks for 1, which needs 0, which needs 4, which is loaded
     (&[true, true, false, true, false], 3, &[3, 0, 1], Some(1)),
@@ -42,7 +44,7 @@ static ROWS: [(&[bool], usize, &[usize], Option<usize>); 4] = [
     (&[true], 0, &[0], None),
 ];
 
-// Returns the plan or the cycle of one requested module of a ring.
+/// Returns the plan or the cycle of one requested module of a ring.
 fn found(rt: &impl Abort, alloc: Global, free: &[bool], request: usize) -> PlanOrCycle {
     let ring = Ring { count: free.len() };
     assert!(rt; request < free.len());
@@ -65,7 +67,7 @@ fn same(rt: &impl Abort, got: &[usize], want: &[usize]) {
     assert_eq!(rt; got, want);
 }
 
-// Compares a plan with its first end, or a cycle.
+/// Compares a plan with its first end, or a cycle.
 fn expect_found(rt: &impl Abort, found: &PlanOrCycle, want: &[usize], end: Option<usize>) {
     match found {
         PlanOrCycle::Plan(plan) => {

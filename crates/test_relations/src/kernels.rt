@@ -106,7 +106,7 @@ fn tables_of_kernels(rt: HostRuntime) {
     expect_bad_line(&rt, kernel_of_symvers(alloc, b"1\ta\tvmlinux\n"), 1);
 }
 
-// Returns the facts of a module that exports nothing and needs `nosuch`.
+/// Returns the facts of a module that exports nothing and needs `nosuch`.
 fn needing(alloc: Global) -> Result<Facts, AllocError>
     ensures { IfOk result IsTreeModule }
 {
@@ -129,7 +129,7 @@ fn needing(alloc: Global) -> Result<Facts, AllocError>
     })
 }
 
-// Returns the tree of one module.
+/// Returns the tree of one module.
 fn tree_of_one(alloc: Global, facts: Facts) -> Result<TreeFacts, AllocError>
     requires { IsTreeModule facts }
     ensures { IfOk result IsTree }
@@ -139,14 +139,14 @@ fn tree_of_one(alloc: Global, facts: Facts) -> Result<TreeFacts, AllocError>
     Ok(tree)
 }
 
-// Returns the relation of a tree over a kernel.
+/// Returns the relation of a tree over a kernel.
 fn related(rt: &impl Abort, alloc: Global, tree: &TreeFacts, kernel: &Kernel) -> Relation
     requires { IsTree tree.now }
 {
     Relation::make(alloc, tree, kernel).expect(rt, "a relation")
 }
 
-// Checks that a need that nobody provides has a line.
+/// Checks that a need that nobody provides has a line.
 fn expect_missing(rt: &impl Abort, relation: &Relation) {
     assert!(rt; relation.provider(b"printk") == Provider::Kernel);
     assert!(rt; relation.provider(b"nosuch") == Provider::Nobody);
@@ -160,7 +160,7 @@ fn expect_missing(rt: &impl Abort, relation: &Relation) {
     }
 }
 
-// Checks no module over a kernel that isn't known.
+/// Checks no module over a kernel that isn't known.
 fn expect_unknown(rt: &impl Abort, alloc: Global) {
     let tree = TreeFacts::new(alloc);
     let none = related(rt, alloc, &tree, &Kernel::unknown(alloc));
@@ -168,7 +168,7 @@ fn expect_unknown(rt: &impl Abort, alloc: Global) {
     assert!(rt; none.obstacles().len() == 0);
 }
 
-// Checks one module over a kernel that exports `printk`.
+/// Checks one module over a kernel that exports `printk`.
 fn expect_known(rt: &impl Abort, alloc: Global) {
     let Ok(facts) = needing(alloc) else {
         panic!(rt; "no memory");

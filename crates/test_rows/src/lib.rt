@@ -1,7 +1,7 @@
 //! Rows of whole commands, for the crates of tests that run these. A row has the modules and files
-//! before a command, its words, and the status, the output, the lines on err and the files that come
-//! out. `run_trees` runs rows, each over files and outputs of its own, and says what differs from
-//! what a row says.
+//! before a command, its words, and the status, the output, the lines on err and the files that
+//! come out. `run_trees` runs rows, each over files and outputs of its own, and says what differs
+//! from what a row says.
 //!
 //! It builds on `kmod_cli` for the commands, on `outside_calls` for files and outputs in memory, on
 //! `km_names` for paths and words, and on `test_objects` for modules.

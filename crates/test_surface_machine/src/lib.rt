@@ -1,5 +1,5 @@
-//! Tests of the public calls of the machine, as a user of the libraries makes them: each once, by its
-//! public path, with an answer that was worked out by hand.
+//! Tests of the public calls of the machine, as a user of the libraries makes them: each once, by
+//! its public path, with an answer that was worked out by hand.
 //!
 //! A module of it has the calls of one layer: images and loads, the users of modules, removals, and
 //! parameters. It builds on the crates whose calls these are, and on `test_objects` for small

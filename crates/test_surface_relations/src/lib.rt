@@ -1,8 +1,8 @@
 //! Tests of the public calls of relations, as a user of the libraries makes them: each once, by its
 //! public path, with an answer that was worked out by hand.
 //!
-//! A module of it has the calls of one layer: the relation of a tree with depmod's files, and device
-//! nodes. It builds on the crates whose calls these are.
+//! A module of it has the calls of one layer: the relation of a tree with depmod's files, and
+//! device nodes. It builds on the crates whose calls these are.
 //!
 //! A call with a long contract is made by a function that promises nothing, so that the contract
 //! isn't carried through the test.

@@ -1,3 +1,5 @@
+// Tests of the words of each command: what they ask for, and which are not understood.
+
 use km_names::Word;
 use kmod_words::{
     read_builtin_alias, read_depmod, read_modinfo, read_modprobe, read_static_nodes, read_trial,

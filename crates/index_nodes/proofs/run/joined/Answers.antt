@@ -18,7 +18,8 @@ returns-clause-run c =
       some = omega (arith, sum, c.requires.first.some);
       whole
           = whole_parts first.count second.count c.in_ok-count.count start sum
-          ∙ ap (λ bytes. whole_values first.count start && whole_values second.count bytes) (sym next)
+          ∙ ap (λ bytes. whole_values first.count start && whole_values second.count bytes)
+          (sym next)
           ∙ (λ i. c.requires.first.whole i && c.requires.second.whole i);
       within = c.requires.second.within;
       end

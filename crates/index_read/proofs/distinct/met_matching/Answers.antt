@@ -98,4 +98,5 @@ returns g c =
     = subst (λ o. Meeting b text c.loop-next.search o c.loop-next.met) c.in_default.is
     c.loop-next.invariant in
     let f = none_left b text w.is w.found w.going w.onward in
-    subst (StandFor (kept c.loop-next.met)) (f.found_is ∙ all_matching b text f.pairs f.chosen) w.stand
+    subst (StandFor (kept c.loop-next.met)) (f.found_is ∙ all_matching b text f.pairs f.chosen)
+    w.stand

@@ -16,19 +16,23 @@ loop-rest-preserved c =
     let then = c.split_at_byte.ensures.after in
     record {
       licenses =
-          ap (λ l. l ++ values_of_key (codes "license") (fields_of after)) c.in_ok-push.ensures.licenses
+          ap (λ l. l ++ values_of_key (codes "license") (fields_of after))
+          c.in_ok-push.ensures.licenses
           ∙ values_later (codes "license") bytes rest piece after c.loop-rest.texts.licenses
           (values_in (codes "license") piece) c.loop-rest.invariant.licenses before then refl;
       aliases =
-          ap (λ l. l ++ values_of_key (codes "alias") (fields_of after)) c.in_ok-push.ensures.aliases
+          ap (λ l. l ++ values_of_key (codes "alias") (fields_of after))
+          c.in_ok-push.ensures.aliases
           ∙ values_later (codes "alias") bytes rest piece after c.loop-rest.texts.aliases
           (values_in (codes "alias") piece) c.loop-rest.invariant.aliases before then refl;
       softdeps =
-          ap (λ l. l ++ values_of_key (codes "softdep") (fields_of after)) c.in_ok-push.ensures.softdeps
+          ap (λ l. l ++ values_of_key (codes "softdep") (fields_of after))
+          c.in_ok-push.ensures.softdeps
           ∙ values_later (codes "softdep") bytes rest piece after c.loop-rest.texts.softdeps
           (values_in (codes "softdep") piece) c.loop-rest.invariant.softdeps before then refl;
       imports =
-          ap (λ l. l ++ values_of_key (codes "import_ns") (fields_of after)) c.in_ok-push.ensures.imports
+          ap (λ l. l ++ values_of_key (codes "import_ns") (fields_of after))
+          c.in_ok-push.ensures.imports
           ∙ values_later (codes "import_ns") bytes rest piece after c.loop-rest.texts.imports
           (values_in (codes "import_ns") piece) c.loop-rest.invariant.imports before then refl;
     }
@@ -51,11 +55,15 @@ returns c =
     = nil_from_length rest (eqb-true (length rest) 0 (sym c.loop-rest-test.ensures)) in
     record {
       licenses =
-          all_read (codes "license") bytes rest c.loop-rest.texts.licenses none c.loop-rest.invariant.licenses;
+          all_read (codes "license") bytes rest c.loop-rest.texts.licenses none
+          c.loop-rest.invariant.licenses;
       aliases =
-          all_read (codes "alias") bytes rest c.loop-rest.texts.aliases none c.loop-rest.invariant.aliases;
+          all_read (codes "alias") bytes rest c.loop-rest.texts.aliases none
+          c.loop-rest.invariant.aliases;
       softdeps =
-          all_read (codes "softdep") bytes rest c.loop-rest.texts.softdeps none c.loop-rest.invariant.softdeps;
+          all_read (codes "softdep") bytes rest c.loop-rest.texts.softdeps none
+          c.loop-rest.invariant.softdeps;
       imports =
-          all_read (codes "import_ns") bytes rest c.loop-rest.texts.imports none c.loop-rest.invariant.imports;
+          all_read (codes "import_ns") bytes rest c.loop-rest.texts.imports none
+          c.loop-rest.invariant.imports;
     }

@@ -20,7 +20,8 @@ loop-setting-init c =
 
 pub write-requires-clause-number : goal.write-requires-clause-number
 write-requires-clause-number c =
-    subst (λ (s : Setting). s.number < length (parameters_of c.args.params.now)) (sym c.setting-item.is)
+    subst (λ (s : Setting). s.number < length (parameters_of c.args.params.now))
+    (sym c.setting-item.is)
     (c.requires.numbers c.loop-setting.setting-index c.setting-item.result c.loop-setting-test.true)
 
 pub loop-setting-preserved : goal.loop-setting-preserved
@@ -71,5 +72,6 @@ returns-clause-count c =
 pub returns-clause-passed : goal.returns-clause-passed
 returns-clause-passed c =
     words-passed c.args.image.now c.loop-setting.copy c.loop-setting.claims c.args.object.now
-    (parameters_of c.args.params.now) c.args.settings.now c.loop-setting.setting-index c.loop-setting.invariant
+    (parameters_of c.args.params.now) c.args.settings.now c.loop-setting.setting-index
+    c.loop-setting.invariant
     (omega arith)

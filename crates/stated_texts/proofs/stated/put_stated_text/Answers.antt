@@ -4,7 +4,8 @@ use Rattle.stated_texts.specs.Lines.{ended, lines_text}
 use Rattle.stated_texts.specs.Kinds.{heading}
 use Rattle.stated_texts.specs.Text.{with_piece}
 use Rattle.stated_texts.proofs.TextSteps.{with-nothing, with_piece-append, put-next, put-whole}
-use Rattle.stated_texts.proofs.StatedSteps.{lines_by, lines-seen, stated-at, text-of-lists, kind-text}
+use Rattle.stated_texts.proofs.StatedSteps.{lines_by, lines-seen, stated-at, text-of-lists}
+use Rattle.stated_texts.proofs.StatedSteps.{kind-text}
 use Rattle.stated_texts.proofs.stated.put_stated_text.Goals as goal
 
 pub loop-place-init : goal.loop-place-init

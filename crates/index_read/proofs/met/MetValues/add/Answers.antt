@@ -34,7 +34,8 @@ loop-next-preserved-in-Some-2 c =
     let old = kept c.loop-next.self in
     let want = kept c.args.self.now ++ values b (link_of c.args.node.now) in
     let stand
-    = subst (λ o. StandFor (old ++ values_at_place b o) want) c.in-Some.is c.loop-next.invariant.stand in
+    = subst (λ o. StandFor (old ++ values_at_place b o) want) c.in-Some.is
+    c.loop-next.invariant.stand in
     record {
       runs = c.in_ok-run.ensures.runs;
       stand

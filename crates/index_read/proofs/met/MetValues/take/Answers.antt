@@ -26,5 +26,6 @@ returns-clause-runs c =
     (runs-more b old (v ∷ []) (hash.values c.args.self.now.runs) c.requires.runs)
     (record {
       run = c.run-run.ensures.run;
-      among = subst (All (IsAmong (old ++ v ∷ []))) (sym c.run-run.ensures.values) (last_among old v);
+      among
+          = subst (All (IsAmong (old ++ v ∷ []))) (sym c.run-run.ensures.values) (last_among old v);
     }))

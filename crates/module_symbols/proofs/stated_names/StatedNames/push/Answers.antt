@@ -1,7 +1,8 @@
 use Rattle.module_symbols.specs.declared.stated_names.StatedKey.{StatedKey}
 use Rattle.name_table.proofs.TableSteps.{or-none, entries-push}
 use Rattle.module_symbols.proofs.stated_names.StatedNames.push.Goals as goal
-use Rattle.module_symbols.proofs.stated_names.StatedNames.push.Goals.{in-Some+in_ok-keep_first, in_default}
+use Rattle.module_symbols.proofs.stated_names.StatedNames.push.Goals.{in-Some+in_ok-keep_first}
+use Rattle.module_symbols.proofs.stated_names.StatedNames.push.Goals.{in_default}
 
 pub returns-clause-ok : goal.returns-clause-ok
 returns-clause-ok c = λ items is.
