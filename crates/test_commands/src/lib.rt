@@ -3,12 +3,10 @@
 //! removals, those of `modinfo` by paths, and those of `trial`. Each runs over files and outputs in
 //! memory.
 //!
-//! It builds on `kmod_cli` for the commands, on `test_rows` for rows of whole commands, on
-//! `test_objects` for modules, and on `tree_gen` for objects with parameters.
+//! It builds on `test_rows` for rows of whole commands, on `test_objects` for modules, and on
+//! `tree_gen` for objects with parameters.
 #![tactic(auto)]
 
-#[cfg(test)]
-mod calls;
 #[cfg(test)]
 mod failing;
 #[cfg(test)]

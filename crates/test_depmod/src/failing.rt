@@ -1,9 +1,9 @@
 // Calls on files and writes that fail, each in turn. The files that were replaced before are new,
 // and all others are as they were.
-use crate::indexes::{PRINTK_MISSING, TWO_MODULES};
+use crate::indexes::PRINTK_MISSING;
 use crate::rows::{DONE, KEPT};
 use outside_calls::CallKind;
-use test_rows::{Failing, FileRow, INDEX, TWO, TreeRow, run_trees};
+use test_rows::{Failing, FileRow, INDEX, TWO, TWO_FILES, TreeRow, run_trees};
 
 /// The tree, where no file is replaced.
 const KEPT_TWO: TreeRow<'static> = TreeRow {
@@ -16,7 +16,7 @@ const KEPT_TWO: TreeRow<'static> = TreeRow {
 const NEW: TreeRow<'static> = TreeRow {
     name: "calls that fail",
     modules: TWO,
-    index: &TWO_MODULES,
+    index: &TWO_FILES,
     ..DONE
 };
 

@@ -30,25 +30,8 @@ pub(crate) const NONE: Files = [
     b"",
 ];
 
-/// Of two modules. `b` needs `a`.
-pub(crate) const TWO_MODULES: Files = [
-    b"kernel/a.ko:\nkernel/b.ko: kernel/a.ko\n",
-    b"\xb0\x07\xf4W\x00\x02\x00\x01 \x00\x00B\
-      \x00\x00\x00\x01\x00\x00\x00\x00kernel/a.ko:\x00\
-      \x00\x00\x00\x01\x00\x00\x00\x01kernel/b.ko: kernel/a.ko\x00\
-      ab@\x00\x00\x0c@\x00\x00!",
-    NO_ALIASES,
-    NO_KEYS,
-    NO_SOFTDEPS,
-    b"# Aliases for symbols, used by symbol_request().\nalias symbol:fa a\n",
-    b"\xb0\x07\xf4W\x00\x02\x00\x01 \x00\x00\x1f\
-      ymbol:fa\x00\x00\x00\x00\x01\x00\x00\x00\x00a\x00\
-      ss\xc0\x00\x00\x0c",
-    NO_KEYS,
-    b"",
-];
-
-/// Of these and `c`, which needs nothing, exports `fc`, and has an alias and a soft dependency.
+/// Of the two modules of `TWO` and `c`, which needs nothing, exports `fc`, and has an alias and a
+/// soft dependency.
 pub(crate) const WITH_C: Files = [
     b"kernel/a.ko:\nkernel/b.ko: kernel/a.ko\nkernel/c.ko:\n",
     b"\xb0\x07\xf4W\x00\x02\x00\x01 \x00\x00W\

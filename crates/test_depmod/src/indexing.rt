@@ -1,8 +1,8 @@
 // Trees that are indexed, and those that are refused.
 use crate::indexes::{
     A_ALONE, ALIASES_OF_X, BUILT_IN, EXPORTED_TWICE, FILE_SYSTEM_FILES, GPL_LINE, LONG_NAME,
-    LONG_NAME_DIFFERS, N_ALONE, NAMESPACE_LINE, NONE, NOSUCH_MISSING, TWO_MODULES, UPDATED,
-    UPDATED_B, UPDATED_BY_NOTHING, VERSION_DIFFERS, WEAK_NEED,
+    LONG_NAME_DIFFERS, N_ALONE, NAMESPACE_LINE, NONE, NOSUCH_MISSING, UPDATED, UPDATED_B,
+    UPDATED_BY_NOTHING, VERSION_DIFFERS, WEAK_NEED,
 };
 use crate::rows::{DONE, KEPT};
 use crate::sheets::{
@@ -15,8 +15,8 @@ use test_objects::{
     MAY_NEED_VERSION_2, NEEDS, NEEDS_NOSUCH, NO_MORE, NOTHING,
 };
 use test_rows::{
-    FILE_SYSTEM, FILE_SYSTEM_KERNEL, Failing, FileRow, INDEX, SYMVERS, TWO, TreeRow, USAGE,
-    run_tree, run_trees,
+    FILE_SYSTEM, FILE_SYSTEM_KERNEL, Failing, FileRow, INDEX, SYMVERS, TWO, TWO_FILES, TreeRow,
+    USAGE, run_tree, run_trees,
 };
 
 /// Trees that are indexed.
@@ -40,7 +40,7 @@ static INDEXED: [TreeRow<'static>; 5] = [
     TreeRow {
         name: "one module needs another",
         modules: TWO,
-        index: &TWO_MODULES,
+        index: &TWO_FILES,
         ..DONE
     },
     // With `-n` the texts go to the output, and no replacement is made.
@@ -149,7 +149,7 @@ static WITH_LINES: [TreeRow<'static>; 5] = [
             bytes: b"ffffffff81000000 T printk\nffffffff82000000 r __ksymtab_printk\n",
         }],
         rows: &[("depmod -b /r -F /r/System.map 6.1.0", 0, "", "")],
-        index: &TWO_MODULES,
+        index: &TWO_FILES,
         ..DONE
     },
 ];
@@ -178,7 +178,7 @@ static RESTRICTED: [TreeRow<'static>; 5] = [
             ("kernel/a.ko", &GIVES_ALONE, &GPL_ONLY),
             ("kernel/b.ko", &FREE, &NO_MORE),
         ],
-        index: &TWO_MODULES,
+        index: &TWO_FILES,
         ..DONE
     },
     // A weak need of a GPL-only export is a dependency, and has no line.
@@ -188,7 +188,7 @@ static RESTRICTED: [TreeRow<'static>; 5] = [
             ("kernel/a.ko", &GIVES_ALONE, &GPL_ONLY),
             ("kernel/b.ko", &MAY_NEED, &NO_MORE),
         ],
-        index: &TWO_MODULES,
+        index: &TWO_FILES,
         ..DONE
     },
     // A module that doesn't import a namespace may not use its exports.
@@ -208,7 +208,7 @@ static RESTRICTED: [TreeRow<'static>; 5] = [
             ("kernel/a.ko", &GIVES_ALONE, &IN_SPACE),
             ("kernel/b.ko", &IMPORTS, &NO_MORE),
         ],
-        index: &TWO_MODULES,
+        index: &TWO_FILES,
         ..DONE
     },
 ];

@@ -1,14 +1,11 @@
 //! Tests of whole runs of `depmod`, and of the commands that look names up in what `depmod --extra`
 //! adds: `builtin-alias` and `static-nodes`. Each runs over files and outputs in memory.
 //!
-//! It builds on `kmod_cli` for the commands, on `test_rows` for rows of whole commands, and on
-//! `test_objects` for modules.
+//! It builds on `test_rows` for rows of whole commands, and on `test_objects` for modules.
 #![tactic(auto)]
 
 #[cfg(test)]
 mod again;
-#[cfg(test)]
-mod calls;
 #[cfg(test)]
 mod extra;
 #[cfg(test)]

@@ -21,6 +21,6 @@ pub use images::image;
 pub use objects::{Objects, words_of};
 pub use row::{
     EXTRA, Failing, FileRow, INDEX, INDEXED, ImageRow, ModuleRow, PLAIN, Row, RowOf, SYMVERS,
-    SYSTEM_MAP, TWO, TreeRow, USAGE,
+    SYSTEM_MAP, TWO, TWO_FILES, TreeRow, USAGE,
 };
 pub use runs::{run_first, run_next, run_over, run_tree, run_trees, run_words};

@@ -1,16 +1,15 @@
 // The call of `depmod` by itself, with the words after the command's name.
-use crate::indexes::TWO_MODULES;
 use km_names::Word;
 use kmod_cli::depmod;
 use std::alloc::Global;
 use std::process::Abort;
-use test_rows::{Objects, PLAIN, SYMVERS, TWO, TreeRow, compare_all, words_of};
+use test_rows::{Objects, PLAIN, SYMVERS, TWO, TWO_FILES, TreeRow, compare_all, words_of};
 
 /// Two modules that are indexed. All files of the index are there, and no other file is changed.
 static TREE: TreeRow<'static> = TreeRow {
     modules: TWO,
     files: &[SYMVERS],
-    index: &TWO_MODULES,
+    index: &TWO_FILES,
     replaced: 9,
     ..PLAIN
 };
