@@ -1,7 +1,6 @@
 //! Tests of whole runs of the commands over trees that `depmod` indexed. They are those of
 //! `modprobe`, with what names resolve to, plans, loads into the modelled machine, parameters and
-//! removals, those of `modinfo` by paths, and those of `trial`. Each runs over files and outputs in
-//! memory.
+//! removals, and those of `trial`. Each runs over files and outputs in memory.
 //!
 //! It builds on `test_rows` for rows of whole commands, on `test_objects` for modules, and on
 //! `tree_gen` for objects with parameters.
@@ -13,8 +12,6 @@ mod failing;
 mod loads;
 #[cfg(test)]
 mod loads_params;
-#[cfg(test)]
-mod modinfo;
 #[cfg(test)]
 mod names;
 #[cfg(test)]
