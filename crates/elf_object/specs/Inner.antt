@@ -2,7 +2,7 @@
 -- It belongs to the code: no public meaning rests on it.
 use Rattle.std.specs.Prelude.{◌≡◌, ℕ, ◌+◌, ◌<◌, ◌≤◌, Bool, true, List, length, map, get_or, Some}
 use Rattle.elf_format.specs.declared.section.TheConstants.{SHT_RELA}
-use Rattle.elf_object.specs.declared.met.MetPlaces.{MetPlaces}
+use Rattle.elf_object.specs.declared.met.ListedPlaces.{ListedPlaces}
 use Rattle.elf_object.specs.declared.place.RelaPlace.{RelaPlace}
 use Rattle.elf_sections.specs.declared.section.Section.{Section}
 use Rattle.elf_object.specs.declared.symbol.Symbol.{Symbol}
@@ -24,10 +24,10 @@ pub record TablesFit (b : List ℕ) : Type 0 where
 abbrev pub unkept_flags : List Section → List Symbol → List Bool
 unkept_flags sections symbols = map (lies_unkept sections) symbols
 
--- These places were met: what is known of their order holds, and they are the list if it is kept.
-pub record HasMet (m : MetPlaces) (places : List RelaPlace) : Type 0 where
-  pub order : IsOrderOf m.order places
-  pub kept : m.keeps ≡ true → m.list.items ≡ places
+-- These places are listed, and what is known of their order holds.
+pub record AreListed (l : ListedPlaces) (places : List RelaPlace) : Type 0 where
+  pub order : IsOrderOf l.order places
+  pub list : l.list.items ≡ places
 
 -- The section i holds relocations of the section t, which is kept.
 pub record HoldsPlacesOf (b : List ℕ) (t i : ℕ) : Type 0 where

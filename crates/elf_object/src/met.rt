@@ -1,8 +1,8 @@
-// The places met while a file is read.
+// What is kept of the places that are met while a file is read.
 
-ghost use Rattle.std.specs.Prelude.{◌≡◌, [], ◌∷◌, ◌++◌, true, IfOk, List, OnOk};
-ghost use Rattle.elf_object.specs.Inner.{HasMet};
-ghost use Rattle.elf_object.specs.Overlap.{IsNear};
+ghost use Rattle.std.specs.Prelude.{◌≡◌, [], ◌∷◌, ◌++◌, IfOk, List, OnOk};
+ghost use Rattle.elf_object.specs.Inner.{AreListed};
+ghost use Rattle.elf_object.specs.Overlap.{IsNear, IsOrderOf};
 ghost use Rattle.elf_object.specs.Places.{place_width};
 ghost use Rattle.elf_object.specs.declared.place.RelaPlace.{RelaPlace};
 
@@ -10,51 +10,54 @@ use crate::RelaPlace;
 use crate::overlap::Order;
 use std::alloc::{AllocError, Global};
 
-/// What is kept of the places that were met: whether they are in order, and the places themselves
-/// if their list is kept.
-#[derive(Drop)]
-pub(crate) struct MetPlaces {
-    pub(crate) list: Vec<RelaPlace>,
-    pub(crate) order: Order,
-    pub(crate) keeps: bool,
-}
-
-impl MetPlaces {
-    /// Returns the state of no place met, with a list of this many to be kept.
-    pub(crate) fn listing(alloc: Global, places: usize) -> Result<Self, AllocError>
-        ensures none { IfOk result (λ m. HasMet m []) }
-        ensures keeps { IfOk result (λ m. m.keeps ≡ true) }
-    {
-        Ok(MetPlaces {
-            list: Vec::with_capacity(alloc, places)?,
-            order: Order::new(),
-            keeps: true,
-        })
-    }
-
-    /// Returns the state of no place met, with no list to be kept.
-    pub(crate) fn testing(alloc: Global) -> Self
-        ensures { HasMet result [] }
-    {
-        MetPlaces {
-            list: Vec::new(alloc),
-            order: Order::new(),
-            keeps: false,
-        }
-    }
+/// What is kept of the places that were met.
+pub(crate) trait MetPlaces {
+    /// Whether these are the places that were met.
+    ghost has_met: { Self → List RelaPlace → Type 0 };
 
     /// Meets the next place, which changes `width` bytes.
-    pub(crate) fn meet(&mut self, place: RelaPlace, width: u8) -> Result<(), AllocError>
+    fn meet(&mut self, place: RelaPlace, width: u8) -> Result<(), AllocError>
         requires near { IsNear place }
         requires width { place_width place ≡ width }
-        ensures met { OnOk result ((places : List RelaPlace) → HasMet self.old places
-            → HasMet self.new (places ++ place ∷ [])) }
-        ensures keeps { OnOk result (self.new.keeps ≡ self.old.keeps) }
+        ensures { OnOk result ((places : List RelaPlace) → has_met self.old places
+            → has_met self.new (places ++ place ∷ [])) };
+}
+
+impl MetPlaces for Order {
+    ghost has_met = { IsOrderOf };
+
+    #[inline(always)]
+    fn meet(&mut self, place: RelaPlace, width: u8) -> Result<(), AllocError> {
+        self.go_on(&place, width);
+        Ok(())
+    }
+}
+
+/// The places that were met, and whether they are in order.
+#[derive(Drop)]
+pub(crate) struct ListedPlaces {
+    pub(crate) list: Vec<RelaPlace>,
+    pub(crate) order: Order,
+}
+
+impl ListedPlaces {
+    /// Returns the list of no places, with room for this many.
+    pub(crate) fn with_capacity(alloc: Global, places: usize) -> Result<Self, AllocError>
+        ensures { IfOk result (λ listed. AreListed listed []) }
     {
-        self.order.meet(&place, width);
-        if self.keeps {
-            self.list.push(place)?;
-        }
+        Ok(ListedPlaces {
+            list: Vec::with_capacity(alloc, places)?,
+            order: Order::new(),
+        })
+    }
+}
+
+impl MetPlaces for ListedPlaces {
+    ghost has_met = { AreListed };
+
+    fn meet(&mut self, place: RelaPlace, width: u8) -> Result<(), AllocError> {
+        self.order.go_on(&place, width);
+        self.list.push(place)?;
         Ok(())
     }
 }

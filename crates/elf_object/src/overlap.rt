@@ -30,8 +30,8 @@ impl Order {
         }
     }
 
-    /// Meets the next place, which changes `width` bytes.
-    pub(crate) fn meet(&mut self, place: &RelaPlace, width: u8)
+    /// Goes on to the next place, which changes `width` bytes.
+    pub(crate) fn go_on(&mut self, place: &RelaPlace, width: u8)
         requires near { IsNear place.now }
         requires width { place_width place.now ≡ width }
         ensures { (places : List RelaPlace) → IsOrderOf self.old places

@@ -11,10 +11,10 @@ ghost use Rattle.elf_sections.specs.Sections.{IsRead, sections_of};
 ghost use Rattle.elf_object.specs.Symbols.{symbols_of};
 ghost use Rattle.elf_object.specs.Places.{align_test, is_alignment, is_applied, overlap_test};
 ghost use Rattle.elf_object.specs.Places.{place_tests, places_of, rela_test, section_places};
-ghost use Rattle.elf_object.specs.Inner.{HasMet, TablesFit, unkept_flags};
+ghost use Rattle.elf_object.specs.Inner.{TablesFit, unkept_flags};
 ghost use Rattle.elf_object.specs.Overlap.{IsOrderOf};
 
-use crate::met::MetPlaces;
+use crate::met::{ListedPlaces, MetPlaces};
 use crate::overlap::Order;
 use crate::place::{check_place, place_at, room_in};
 use crate::shared::check_shared;
@@ -50,10 +50,10 @@ pub(crate) fn read_places(
         (λ e. (e ≡ ObjectFault.Memory) ⊎ (first (place_tests sections.now.file) ≡ Some e)) }
 {
     check_alignments(sections)?;
-    let mut met = MetPlaces::listing(alloc, relocation_count(sections, TABLE_LIMIT)?)?;
+    let mut met = ListedPlaces::with_capacity(alloc, relocation_count(sections, TABLE_LIMIT)?)?;
     meet_places(sections, unkept, &mut met)?;
     check_overlaps(alloc, sections, &met.order)?;
-    let MetPlaces { list, .. } = met;
+    let ListedPlaces { list, .. } = met;
     Ok(List::from_vec(list))
 }
 
@@ -76,9 +76,9 @@ pub(crate) fn check_places(
     check_alignments(sections)?;
     // Tables may share their bytes, so they are added up before they are read.
     relocation_count(sections, TESTED_TABLE_LIMIT)?;
-    let mut met = MetPlaces::testing(alloc);
-    meet_places(sections, unkept, &mut met)?;
-    check_overlaps(alloc, sections, &met.order)
+    let mut order = Order::new();
+    meet_places(sections, unkept, &mut order)?;
+    check_overlaps(alloc, sections, &order)
 }
 
 /// Tests the alignments of the sections that are kept.
@@ -114,19 +114,18 @@ fn relocation_count(sections: &SectionTable, limit: usize) -> Result<usize, Allo
 }
 
 /// Meets all places of a file. None was met before.
-fn meet_places(
+fn meet_places<M: MetPlaces>(
     sections: &SectionTable,
     unkept: &[bool],
-    met: &mut MetPlaces,
+    met: &mut M,
 ) -> Result<(), ObjectFault>
     requires small { length sections.now.file ≤ file_limit }
     requires read { IsRead sections.now.file sections.now.list }
     requires fit { TablesFit sections.now.file }
     requires unkept { unkept.now
         ≡ unkept_flags (sections_of sections.now.file) (symbols_of sections.now.file) }
-    requires none { HasMet met.old [] }
-    ensures met { OnOk result (HasMet met.new (places_of sections.now.file)) }
-    ensures keeps { OnOk result (met.new.keeps ≡ met.old.keeps) }
+    requires none { M.has_met met.old [] }
+    ensures met { OnOk result (M.has_met met.new (places_of sections.now.file)) }
     ensures passed { OnOk result
         (first (each (section_count sections.now.file) (rela_test sections.now.file)) ≡ None) }
     ensures fault { IfErr result
@@ -183,11 +182,11 @@ pub(crate) fn is_applied(sections: &SectionTable, index: u32) -> bool
 /// Meets the places of the section `index`, if it holds relocations of a section that is kept.
 /// Almost all time of a read goes to its loop, so it stays a function of its own.
 #[inline(never)]
-fn meet_section_places(
+fn meet_section_places<M: MetPlaces>(
     sections: &SectionTable,
     unkept: &[bool],
     index: u32,
-    met: &mut MetPlaces,
+    met: &mut M,
 ) -> Result<(), ObjectFault>
     requires small { length sections.now.file ≤ file_limit }
     requires read { IsRead sections.now.file sections.now.list }
@@ -195,9 +194,8 @@ fn meet_section_places(
     requires index { index < length sections.now.list }
     requires unkept { unkept.now
         ≡ unkept_flags (sections_of sections.now.file) (symbols_of sections.now.file) }
-    ensures met { OnOk result ((before : List RelaPlace) → HasMet met.old before
-        → HasMet met.new (before ++ section_places sections.now.file index)) }
-    ensures keeps { OnOk result (met.new.keeps ≡ met.old.keeps) }
+    ensures met { OnOk result ((before : List RelaPlace) → M.has_met met.old before
+        → M.has_met met.new (before ++ section_places sections.now.file index)) }
     ensures passed { OnOk result (rela_test sections.now.file index ≡ None) }
     ensures fault { IfErr result (λ e. (e ≡ ObjectFault.Memory)
         ⊎ (rela_test sections.now.file index ≡ Some e)) }

@@ -33,19 +33,19 @@ entry_test-by b i j unkept room p flags is_room is_place =
     ) refl
 
 pub returns-then-not-is_applied-clause-met : goal.returns-then-not-is_applied-clause-met
-returns-then-not-is_applied-clause-met c = λ before has_met.
+returns-then-not-is_applied-clause-met g c = λ before has_met.
     let none
     = section_places-none c.args.sections.now.file c.args.index
     (sym c.is_applied.ensures ∙ c.if-not-is_applied.true) in
     rw (none, append-nil before) has_met
 
 pub returns-then-not-is_applied-clause-passed : goal.returns-then-not-is_applied-clause-passed
-returns-then-not-is_applied-clause-passed c =
+returns-then-not-is_applied-clause-passed g c =
     rela_test-none c.args.sections.now.file c.args.index
     (sym c.is_applied.ensures ∙ c.if-not-is_applied.true)
 
 pub section-requires : goal.section-requires
-section-requires c =
+section-requires g c =
     let b = c.args.sections.now.file in
     let applied = sym c.is_applied.ensures ∙ c.if-not-is_applied.false in
     let count = c.section-number.ensures.count in
@@ -54,7 +54,7 @@ section-requires c =
     (c.requires.fit.targets c.args.index (omega arith) (is_applied-kind b c.args.index applied))
 
 pub returns-in_err-width-clause-fault : goal.returns-in_err-width-clause-fault
-returns-in_err-width-clause-fault c =
+returns-in_err-width-clause-fault g c =
     let b = c.args.sections.now.file in
     let i = c.args.index in
     let n = c.loop-entry.entry in
@@ -81,7 +81,7 @@ returns-in_err-width-clause-fault c =
     c.loop-entry.invariant.tests failed))
 
 pub loop-entry-preserved : goal.loop-entry-preserved
-loop-entry-preserved c =
+loop-entry-preserved g c =
     let b = c.args.sections.now.file in
     let i = c.args.index in
     let n = c.loop-entry.entry in
@@ -102,17 +102,16 @@ loop-entry-preserved c =
     record {
       tests = below_more _ _ c.loop-entry.invariant.tests passed;
       has_met = λ before has_met.
-          let more = c.in_ok-meet.ensures.met _ (c.loop-entry.invariant.has_met before has_met) in
+          let more = c.in_ok-meet.ensures _ (c.loop-entry.invariant.has_met before has_met) in
           rw (
             place,
             append_assoc before,
             ← map-range_with_len_more (place_of b i) 0 n n (omega arith),
           ) at more;
-      same = c.in_ok-meet.ensures.keeps ∙ c.loop-entry.invariant.same;
     }
 
 pub meet-requires-clause-near : goal.meet-requires-clause-near
-meet-requires-clause-near c =
+meet-requires-clause-near g c =
     let b = c.args.sections.now.file in
     let i = c.args.index in
     let n = c.loop-entry.entry in
@@ -138,7 +137,7 @@ meet-requires-clause-near c =
     (IsInSection-place b i n c.requires.read.table c.requires.read.within applied target passed))
 
 pub returns-clause-met : goal.returns-clause-met
-returns-clause-met c = λ before has_met.
+returns-clause-met g c = λ before has_met.
     let b = c.args.sections.now.file in
     let i = c.args.index in
     let applied = sym c.is_applied.ensures ∙ c.if-not-is_applied.false in
@@ -147,7 +146,7 @@ returns-clause-met c = λ before has_met.
     rw (section_places-some b i applied) (rw end at (c.loop-entry.invariant.has_met before has_met))
 
 pub returns-clause-passed : goal.returns-clause-passed
-returns-clause-passed c =
+returns-clause-passed g c =
     let b = c.args.sections.now.file in
     let i = c.args.index in
     let applied = sym c.is_applied.ensures ∙ c.if-not-is_applied.false in

@@ -1,8 +1,8 @@
 use Rattle.std.proofs.Common.{◌≡◌, ◌≤◌, ◌+◌, ◌*◌, true, false, ap, ◌∙◌, arith}
 use Rattle.elf_object.specs.Overlap.{place_end, place_start}
 use Rattle.elf_object.proofs.SpanLemmas.{IsApart-push, IsApart-push_empty}
-use Rattle.elf_object.proofs.overlap.Order.meet.Goals as goal
-use Rattle.elf_object.proofs.overlap.Order.meet.Goals.{then-start-self, else-start-self}
+use Rattle.elf_object.proofs.overlap.Order.go_on.Goals as goal
+use Rattle.elf_object.proofs.overlap.Order.go_on.Goals.{then-start-self, else-start-self}
 
 pub returns-then-width-eq0 : goal.returns-then-width-eq0
 returns-then-width-eq0 c = λ places before holds.
