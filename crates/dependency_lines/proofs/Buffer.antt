@@ -34,14 +34,14 @@ last names name =
     ∙ take_all (length (names ++ name) - length names) name
     (omega (arith, length-append names name))
 
-pub pushed : (names name : List ℕ) (ls : List Line) (start end n : ℕ) (t : Bor (List ℕ))
+pub pushed : (names name : List ℕ) (ls : List Line) (start end n own : ℕ) (t : Bor (List ℕ))
     → start ≡ length names → end ≡ length (names ++ name) → All (IsInside names) ls
     → map (line_in (names ++ name))
-    (ls ++ record { start = start; end = end; number = n; text = t } ∷ [])
+    (ls ++ record { start = start; end = end; number = n; own = own; text = t } ∷ [])
     ≡ map (line_in names) ls ++ (name, (n, t.now)) ∷ []
-pushed names name ls start end n t first behind is =
+pushed names name ls start end n own t first behind is =
     map-append (line_in (names ++ name)) ls
-    (record { start = start; end = end; number = n; text = t } ∷ [])
+    (record { start = start; end = end; number = n; own = own; text = t } ∷ [])
     ∙ (λ i. all-still names name ls is i
     ++ (
       (ap (λ e. take (e - start) (drop start (names ++ name))) behind

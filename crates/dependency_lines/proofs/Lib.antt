@@ -8,6 +8,8 @@ pub mod Keys
 mod Kept
 pub mod Lines
 pub mod Named
+pub mod NamedFiles
+pub mod Own
 pub mod Placed
 pub mod Sorting
 pub mod Stems

@@ -109,6 +109,49 @@ any-short p (x ∷ xs) l = go (p x) refl (any-short p xs)
     go true e more = ap (λ b. b || list_any p xs) e
     go false e more = λ i. e i || more (omega (arith, ap length (before-no p x xs e), l)) i
 
+-- and then the first part is shorter
+pub any-long : (p : ℕ → Bool) (xs : List ℕ) → list_any p xs ≡ true
+    → length (before_first p xs) < length xs
+any-long p [] h = absurd (true≢false (sym h))
+any-long p (x ∷ xs) h = go (p x) refl h (any-long p xs)
+  where
+    go : (b : Bool) → p x ≡ b → (b || list_any p xs) ≡ true
+        → (list_any p xs ≡ true → length (before_first p xs) < length xs)
+        → length (before_first p (x ∷ xs)) < length (x ∷ xs)
+    go true e h more = omega (arith, ap length (before-yes p x xs e))
+    go false e h more = omega (arith, ap length (before-no p x xs e), more h)
+
+-- the first part by its length, and what follows the byte after it
+pub before-front : (p : ℕ → Bool) (xs : List ℕ)
+    → take (length (before_first p xs)) xs ≡ before_first p xs
+before-front p [] = refl
+before-front p (x ∷ xs) = go (p x) refl (before-front p xs)
+  where
+    go : (b : Bool) → p x ≡ b → take (length (before_first p xs)) xs ≡ before_first p xs
+        → take (length (before_first p (x ∷ xs))) (x ∷ xs) ≡ before_first p (x ∷ xs)
+    go true e more =
+        let none = before-yes p x xs e in
+        ap (λ ys. take (length ys) (x ∷ xs)) none ∙ sym none
+    go false e more =
+        let next = before-no p x xs e in
+        ap (λ ys. take (length ys) (x ∷ xs)) next ∙ ap (λ ys. x ∷ ys) more ∙ sym next
+
+pub after-rest : (p : ℕ → Bool) (xs : List ℕ) → list_any p xs ≡ true
+    → drop (length (before_first p xs) + 1) xs ≡ after_first p xs
+after-rest p [] h = absurd (true≢false (sym h))
+after-rest p (x ∷ xs) h = go (p x) refl h (after-rest p xs)
+  where
+    go : (b : Bool) → p x ≡ b → (b || list_any p xs) ≡ true
+        → (list_any p xs ≡ true → drop (length (before_first p xs) + 1) xs ≡ after_first p xs)
+        → drop (length (before_first p (x ∷ xs)) + 1) (x ∷ xs) ≡ after_first p (x ∷ xs)
+    go true e h more =
+        ap (λ ys. drop (length ys + 1) (x ∷ xs)) (before-yes p x xs e) ∙ sym (after-yes p x xs e)
+    go false e h more =
+        let n : length (x ∷ before_first p xs) + 1 ≡ suc (length (before_first p xs) + 1)
+        = omega arith in
+        ap (λ ys. drop (length ys + 1) (x ∷ xs)) (before-no p x xs e)
+        ∙ ap (λ m. drop m (x ∷ xs)) n ∙ more h ∙ sym (after-no p x xs e)
+
 pub any-whole : (p : ℕ → Bool) (xs : List ℕ) → length xs ≤ length (before_first p xs)
     → list_any p xs ≡ false
 any-whole p [] l = refl

@@ -10,7 +10,7 @@ use Rattle.std.proofs.lemmas.List.Sums.{suffix_len_is}
 use Rattle.memchr.specs.Find.{IsFirstByte, IsLastByte, is_byte}
 use Rattle.km_names.specs.Path.{underscored}
 
-after-place : (a : ℕ) (hay : List ℕ) (n : ℕ) → n ≤ length hay
+pub after-place : (a : ℕ) (hay : List ℕ) (n : ℕ) → n ≤ length hay
     → ((k : ℕ) → n ≤ k → k < length hay → eqb (get_or hay k 0) a ≡ false)
     → ((0 < n) → eqb (get_or hay (n - 1) 0) a ≡ true) → drop n hay ≡ after_last (λ b. eqb b a) hay
 after-place a hay n l none here =

@@ -1,10 +1,12 @@
 -- Modules as the code keeps them.
 -- It belongs to the code: no public meaning rests on it.
-use Rattle.std.specs.Prelude.{◌≡◌, ℕ, ◌+◌, ◌-◌, ◌<◌, ◌≤◌, true, List, All, length, map, take, drop}
-use Rattle.std.specs.Prelude.{Some}
+use Rattle.std.specs.Prelude.{◌≡◌, ℕ, ◌+◌, ◌-◌, ◌^◌, ◌<◌, ◌≤◌, true, List, All, length, map, take}
+use Rattle.std.specs.Prelude.{Some, drop, ◌==◌}
+use Rattle.std.specs.List.{list_any}
 use Rattle.std.specs.Cmp.Lexicographic.{slice_cmp}
 use Rattle.std.specs.Ordering.{nat_cmp}
 use Rattle.std.specs.declared.cmp.Ordering.TheVariants.{Less}
+use Rattle.mod_tree.specs.DependencyLine.{own_path}
 use Rattle.index_format.specs.Listing.{KeyValue}
 use Rattle.name_table.specs.NameTable.{Table, IsTableOf}
 use Rattle.dependency_lines.specs.declared.named_lines.Line.{Line}
@@ -16,10 +18,13 @@ abbrev pub line_in : List ℕ → Line → KeyValue
 line_in names line =
     (take (line.end - line.start) (drop line.start names), (line.number, line.text.now))
 
--- Its name lies in the buffer.
+-- Its name lies in the buffer, and a `:` follows its own path.
 pub record IsInside (names : List ℕ) (line : Line) : Type 0 where
   pub order : line.start ≤ line.end
   pub within : line.end ≤ length names
+  pub small : line.own < 2 ^ 32
+  pub own : line.own ≡ length (own_path line.text.now)
+  pub colon : list_any (λ b. b == 58) line.text.now ≡ true
 
 -- A table has the names of modules.
 abbrev pub IsNamed : Table → List KeyValue → Type 0

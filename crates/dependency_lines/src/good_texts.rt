@@ -69,14 +69,19 @@ impl<'a> GoodTexts<'a> {
     }
 }
 
-/// Returns the slot of a text. It is by the last bytes of the last name, in which most paths
-/// differ, and by the length.
-pub(crate) fn slot_of(text: &[u8]) -> usize {
+/// Returns the slot of a text with this hash.
+pub(crate) fn slot_of(hash: usize) -> usize {
+    (hash >> 22) % SLOTS
+}
+
+/// Returns a hash of a text in the low 32 bits. It is by the last bytes of the last name, in which
+/// most paths differ, and by the length.
+pub(crate) fn hash_of(text: &[u8]) -> usize {
     if text.len() < 11 {
         return text.len();
     }
     let front = be_u32_at(text, text.len() - 11);
     let back = be_u32_at(text, text.len() - 7);
     let sum = (front.wrapping_add(back) as usize).wrapping_add(text.len());
-    (sum.wrapping_mul(0x9E37_79B1) >> 22) % SLOTS
+    sum.wrapping_mul(0x9E37_79B1)
 }

@@ -13,7 +13,7 @@
 //!
 //! depmod gives each module the number of its place. The lines are in the order of their names, in
 //! which a name of modules with such numbers is searched for. For others there is a table of names.
-//! Most paths are found among those that were tested before.
+//! Most paths that lines name are found among those with which lines begin.
 //!
 //! The crate builds on `mod_tree` for what a dependency line is, on `index_read` for the values of
 //! an index, on `name_table` for the table of names, and on `memchr` for the names in paths.
@@ -25,6 +25,7 @@ mod line;
 mod modules;
 mod named_lines;
 mod order;
+mod own_paths;
 mod path_name;
 mod places;
 mod read;

@@ -1,23 +1,26 @@
 // Dependency lines by what they name.
 ghost use Rattle.std.specs.Prelude.{◌≡◌, ◌==◌, ◌&&◌, ◌⊎◌, ℕ, List, Bool, true, All, Some, None};
 ghost use Rattle.std.specs.Prelude.{IfOk, IfErr, OnOk, drop, length, option_copied, option_map};
+ghost use Rattle.std.specs.Prelude.{MatchOption, false};
 ghost use Rattle.std.specs.List.{before_first, list_any};
 ghost use Rattle.std.specs.Str.{bytes_eq};
 ghost use Rattle.km_names.specs.Path.{module_name};
 ghost use Rattle.index_read.specs.Contents.{contents};
-ghost use Rattle.mod_tree.specs.DependencyLine.{is_line_path, own_path};
-ghost use Rattle.dependency_lines.specs.GoodPaths.{AreKept, are_good_needs, begins_line, is_good};
+ghost use Rattle.mod_tree.specs.DependencyLine.{own_path};
+ghost use Rattle.dependency_lines.specs.GoodPaths.{AreKept, AreOwnGood, are_good_needs};
+ghost use Rattle.dependency_lines.specs.GoodPaths.{begins_line, is_good};
 ghost use Rattle.dependency_lines.specs.Modules.{is_line_of, is_well_formed, bad_among};
 ghost use Rattle.dependency_lines.specs.Spaces.{IsAfterSpace};
 
 use crate::fault::LineFault;
-use crate::good_texts::{GoodTexts, slot_of};
+use crate::good_texts::{GoodTexts, hash_of, slot_of};
 use crate::named_lines::Lines;
-use crate::path_name::{has_name, is_plain, stem, write_name};
+use crate::own_paths::OwnPaths;
+use crate::path_name::{ends_with_name, has_name, is_plain, stem, write_name};
 use index_read::{Index, plain};
 use km_names::{Name, split_at_byte};
 use memchr::memchr;
-use mod_tree::is_line_path;
+use mod_tree::{is_line_path, own_path};
 use name_lookup::Indexes;
 use std::alloc::{AllocError, Global};
 
@@ -49,10 +52,12 @@ pub fn well_formed(alloc: Global, name: &Name, indexes: &Indexes) -> Result<bool
 {
     match plain::first_text(&indexes.dep, name.as_bytes()) {
         Some(line) => {
+            let own = OwnPaths::none(alloc);
             let mut paths = GoodTexts::without_slots(alloc);
             let mut lists = GoodTexts::without_slots(alloc);
             let mut buffer = Vec::new(alloc);
             is_line(
+                &own,
                 &mut paths,
                 &mut lists,
                 &mut buffer,
@@ -65,13 +70,15 @@ pub fn well_formed(alloc: Global, name: &Name, indexes: &Indexes) -> Result<bool
     }
 }
 
-/// Tests that each module that lines need is known.
+/// Tests that each module that lines need is known. The modules of `own` are.
 pub(crate) fn check_needs<K: KnownNames>(
     alloc: Global,
     known: &K,
+    own: &OwnPaths<'_>,
     lines: &Lines<'_>,
 ) -> Result<(), LineFault>
-    requires { All (λ m. begins_line m.0 m.1.1 ≡ true) lines.now }
+    requires own { AreOwnGood (K.has known.now) own.now }
+    requires begin { All (λ m. begins_line m.0 m.1.1 ≡ true) lines.now }
     ensures passed { OnOk result (bad_among (K.has known.now) lines.now ≡ None) }
     ensures err { IfErr result
         (λ fault. (fault ≡ LineFault.Memory)
@@ -81,8 +88,8 @@ pub(crate) fn check_needs<K: KnownNames>(
     let mut lists = GoodTexts::new(alloc)?;
     let mut buffer = Vec::new(alloc);
     for place in 0..lines.len() {
-        let needs = split_at_byte(lines.text(place), b':').1;
-        if !are_found_good(&mut paths, &mut lists, &mut buffer, known, needs)? {
+        let needs = lines.needs(place);
+        if !are_found_good(own, &mut paths, &mut lists, &mut buffer, known, needs)? {
             return Err(LineFault::BadLine {
                 name: Name::from_slice(alloc, lines.name(place))?,
             });
@@ -91,12 +98,18 @@ pub(crate) fn check_needs<K: KnownNames>(
     Ok(())
 }
 
-/// Returns whether a text begins as the dependency line of the module of this name does.
-pub(crate) fn begins_line(line: &[u8], name: &[u8]) -> bool
-    ensures { result ≡ begins_line name.now line.now }
+/// Returns the length of the path with which a text begins, if it begins as the dependency line of
+/// the module of this name does.
+pub(crate) fn own_length(line: &[u8], name: &[u8]) -> Option<usize>
+    ensures { MatchOption result (begins_line name.now line.now ≡ false)
+        (λ own. (begins_line name.now line.now ≡ true) × (own ≡ length (own_path line.now))) }
 {
-    let own = split_at_byte(line, b':').0;
-    is_front(line, own) && names_module(own, name)
+    let own = own_path(line)?;
+    if names_module(own, name) {
+        Some(own.len())
+    } else {
+        None
+    }
 }
 
 /// Returns what follows the first space of a text, if there is one.
@@ -110,6 +123,7 @@ pub(crate) fn after_space(text: &[u8]) -> Option<&[u8]>
 /// it needs is known. Names that aren't as in their paths are written to a buffer, one after the
 /// other.
 fn is_line<'a, K: KnownNames>(
+    own: &OwnPaths<'_>,
     paths: &mut GoodTexts<'a>,
     lists: &mut GoodTexts<'a>,
     buffer: &mut Vec<u8>,
@@ -117,58 +131,54 @@ fn is_line<'a, K: KnownNames>(
     name: &[u8],
     line: &'a [u8],
 ) -> Result<bool, AllocError>
+    requires own { AreOwnGood (K.has known.now) own.now }
     requires paths { AreKept (is_good (K.has known.now)) paths.old.slots.items }
     requires lists { AreKept (are_good_needs (K.has known.now)) lists.old.slots.items }
     ensures good { IfOk result (λ good. good ≡ is_line_of (K.has known.now) name.now line.now) }
     ensures paths { OnOk result (AreKept (is_good (K.has known.now)) paths.new.slots.items) }
     ensures lists { OnOk result (AreKept (are_good_needs (K.has known.now)) lists.new.slots.items) }
 {
-    if !begins_line(line, name) {
+    let Some(length) = own_length(line, name) else {
         return Ok(false);
-    }
-    are_found_good(paths, lists, buffer, known, split_at_byte(line, b':').1)
+    };
+    are_found_good(own, paths, lists, buffer, known, &line[length + 1..])
 }
 
 /// Returns whether what follows the `:` of a line is a sequence of paths of known modules, as
 /// [`are_good`] does. Many lines need the same modules in the same order, so the whole text is
 /// looked for first.
 fn are_found_good<'a, K: KnownNames>(
+    own: &OwnPaths<'_>,
     paths: &mut GoodTexts<'a>,
     lists: &mut GoodTexts<'a>,
     buffer: &mut Vec<u8>,
     known: &K,
     needs: &'a [u8],
 ) -> Result<bool, AllocError>
+    requires own { AreOwnGood (K.has known.now) own.now }
     requires paths { AreKept (is_good (K.has known.now)) paths.old.slots.items }
     requires lists { AreKept (are_good_needs (K.has known.now)) lists.old.slots.items }
     ensures good { IfOk result (λ good. good ≡ are_good_needs (K.has known.now) needs.now) }
     ensures paths { OnOk result (AreKept (is_good (K.has known.now)) paths.new.slots.items) }
     ensures lists { OnOk result (AreKept (are_good_needs (K.has known.now)) lists.new.slots.items) }
 {
-    let slot = slot_of(needs);
+    let slot = slot_of(hash_of(needs));
     if lists.has(slot, needs) {
         return Ok(true);
     }
-    if !are_good(paths, buffer, known, needs)? {
+    if !are_good(own, paths, buffer, known, needs)? {
         return Ok(false);
     }
     lists.put(slot, needs);
     Ok(true)
 }
 
-/// Returns whether what a line has before its first `:` is a path and isn't the whole line.
-fn is_front(line: &[u8], own: &[u8]) -> bool
-    requires { own.now ≡ own_path line.now }
-    ensures { result ≡ (list_any (λ b. b == 58) line.now && is_line_path own.now) }
-{
-    own.len() < line.len() && is_line_path(own)
-}
-
 /// Returns whether the module at a path has this name.
 fn names_module(path: &[u8], name: &[u8]) -> bool
     ensures { result ≡ bytes_eq (module_name path.now) name.now }
 {
-    has_name(stem(path), name)
+    // Most files have a name and `.ko`, and no other `.`.
+    ends_with_name(path, name) || has_name(stem(path), name)
 }
 
 /// Splits a text at its first space, if there is one: what comes before it, and what follows it.
@@ -187,12 +197,14 @@ fn split_at_space(text: &[u8]) -> (&[u8], Option<&[u8]>)
 /// Returns whether what follows the `:` of a line is a sequence of paths of known modules, maybe
 /// none, with a space before each.
 fn are_good<'a, K: KnownNames>(
+    own: &OwnPaths<'_>,
     paths: &mut GoodTexts<'a>,
     buffer: &mut Vec<u8>,
     known: &K,
     needs: &'a [u8],
 ) -> Result<bool, AllocError>
-    requires { AreKept (is_good (K.has known.now)) paths.old.slots.items }
+    requires own { AreOwnGood (K.has known.now) own.now }
+    requires kept { AreKept (is_good (K.has known.now)) paths.old.slots.items }
     ensures good { IfOk result (λ good. good ≡ are_good_needs (K.has known.now) needs.now) }
     ensures kept { OnOk result (AreKept (is_good (K.has known.now)) paths.new.slots.items) }
 {
@@ -202,7 +214,7 @@ fn are_good<'a, K: KnownNames>(
             return Ok(false);
         }
         let (path, after) = up_to_space(&rest[1..]);
-        if !is_good(paths, buffer, known, path)? {
+        if !is_good(own, paths, buffer, known, path)? {
             return Ok(false);
         }
         rest = after;
@@ -221,19 +233,23 @@ fn up_to_space(text: &[u8]) -> (&[u8], &[u8])
     }
 }
 
-/// Returns whether a text is the path of a known module.
+/// Returns whether a text is the path of a known module. Most are those of lines themselves, or
+/// were tested before.
 fn is_good<'a, K: KnownNames>(
+    own: &OwnPaths<'_>,
     paths: &mut GoodTexts<'a>,
     buffer: &mut Vec<u8>,
     known: &K,
     path: &'a [u8],
 ) -> Result<bool, AllocError>
-    requires { AreKept (is_good (K.has known.now)) paths.old.slots.items }
+    requires own { AreOwnGood (K.has known.now) own.now }
+    requires kept { AreKept (is_good (K.has known.now)) paths.old.slots.items }
     ensures good { IfOk result (λ good. good ≡ is_good (K.has known.now) path.now) }
     ensures kept { OnOk result (AreKept (is_good (K.has known.now)) paths.new.slots.items) }
 {
-    let slot = slot_of(path);
-    if paths.has(slot, path) {
+    let hash = hash_of(path);
+    let slot = slot_of(hash);
+    if own.has(hash, path) || paths.has(slot, path) {
         return Ok(true);
     }
     if !is_line_path(path) || !is_known(buffer, known, path)? {

@@ -12,9 +12,10 @@ use crate::fault::LineFault;
 use crate::line::{KnownNames, check_needs};
 use crate::named_lines::Lines;
 use crate::order::{number_of, places_by_number, sorted_places};
+use crate::own_paths::OwnPaths;
 use crate::places::{push_needed, push_place};
 use crate::read::DependencyLines;
-use km_names::{Name, split_at_byte};
+use km_names::Name;
 use name_table::NameTable;
 use std::alloc::{AllocError, Global};
 use std::marker::Model;
@@ -65,7 +66,8 @@ impl<'a> Modules<'a> {
     {
         let kept = lines.lines();
         let modules = numbered(alloc, kept)?;
-        check_needs(alloc, &modules, kept)?;
+        let own = OwnPaths::new(alloc, kept)?;
+        check_needs(alloc, &modules, &own, kept)?;
         Ok(modules)
     }
 
@@ -107,7 +109,7 @@ impl<'a> Modules<'a> {
         requires { place < length self.now }
         ensures { result.now ≡ path_at self.now place }
     {
-        split_at_byte(self.line(place), b':').0
+        self.lines.path(self.places[place])
     }
 
     /// Finds the places of the names that are modules, in the order of the names.

@@ -3,6 +3,7 @@ ghost use Rattle.std.specs.Prelude.{◌≡◌, ◌==◌, true, OnOk, if◌then�
 ghost use Rattle.std.specs.List.{after_last};
 ghost use Rattle.std.specs.Str.{bytes_eq};
 ghost use Rattle.km_names.specs.Path.{module_name, underscored};
+ghost use Rattle.dependency_lines.specs.GoodPaths.{StandsFor};
 
 use km_names::split_at_byte;
 use memchr::{memchr, memrchr};
@@ -35,6 +36,43 @@ pub(crate) fn has_name(text: &[u8], name: &[u8]) -> bool
         }
     }
     true
+}
+
+/// Returns whether a path ends with a `/`, a name and `.ko`, where a `-` counts as `_`. If it does,
+/// this is the name of its module.
+pub(crate) fn ends_with_name(path: &[u8], name: &[u8]) -> bool
+    ensures { result ≡ true → module_name path.now ≡ name.now }
+{
+    let size = name.len();
+    if path.len() < 4 || path.len() - 4 < size {
+        return false;
+    }
+    let start = path.len() - 3 - size;
+    if path[start - 1] != b'/' || path[start + size] != b'.' {
+        return false;
+    }
+    if path[start + size + 1] != b'k' || path[start + size + 2] != b'o' {
+        return false;
+    }
+    for i in 0..size {
+        if !stands_for(path[start + i], name[i]) {
+            return false;
+        }
+    }
+    true
+}
+
+/// Returns whether a byte of a file's name stands for this byte of its module's name. A `.` and a
+/// `/` stand for none.
+#[inline(always)]
+fn stands_for(byte: u8, other: u8) -> bool
+    ensures { result ≡ true → StandsFor byte other }
+{
+    if byte == other {
+        byte != b'-' && byte != b'.' && byte != b'/'
+    } else {
+        byte == b'-' && other == b'_'
+    }
 }
 
 /// Writes the name of the module at a path, in place of what the buffer has.

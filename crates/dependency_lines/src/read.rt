@@ -9,8 +9,9 @@ ghost use Rattle.dependency_lines.specs.Modules.{bad_among, bad_name, first_valu
 ghost use Rattle.dependency_lines.specs.Tables.{AreLines};
 
 use crate::fault::LineFault;
-use crate::line::{begins_line, check_needs};
+use crate::line::{check_needs, own_length};
 use crate::named_lines::Lines;
+use crate::own_paths::OwnPaths;
 use index_read::{FirstWalk, Index};
 use km_names::Name;
 use std::alloc::{AllocError, Global};
@@ -53,13 +54,13 @@ impl<'a> DependencyLines<'a> {
             ⊎ (option_map LineFault.BadLine (bad_name (contents index.now.nodes))
             ≡ Some fault)) }
     {
-        let mut lines = Lines::new(alloc);
+        let mut lines = Lines::with_room(alloc, index.nodes.bytes().len())?;
         let mut walk = FirstWalk::start(alloc, index)?;
         while let Some(first) = walk.next()? {
-            if !begins_line(first.text, walk.key()) {
+            let Some(own) = own_length(first.text, walk.key()) else {
                 return Err(bad_line(alloc, index, &lines, walk.key()));
-            }
-            lines.push(walk.key(), first.priority, first.text)?;
+            };
+            lines.push(walk.key(), first.priority, own, first.text)?;
         }
         Ok(DependencyLines { lines })
     }
@@ -85,7 +86,8 @@ fn bad_line(alloc: Global, index: &Index, lines: &Lines<'_>, name: &[u8]) -> Lin
         (lines.now ++ (name.now, (number, text)) ∷ rest))
         ≡ Some result) }
 {
-    if let Err(fault) = check_needs(alloc, index, lines) {
+    let own = OwnPaths::none(alloc);
+    if let Err(fault) = check_needs(alloc, index, &own, lines) {
         return fault;
     }
     match Name::from_slice(alloc, name) {

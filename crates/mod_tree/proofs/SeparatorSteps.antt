@@ -11,7 +11,8 @@ use Rattle.std.proofs.lemmas.List.Sums.{position_or_len_is}
 use Rattle.memchr.specs.Find.{IsFirstByte, is_byte3}
 use Rattle.mod_tree.specs.Tree.{is_module_path}
 use Rattle.mod_tree.specs.DependencyLine.{is_separator, is_line_path, are_needed}
-use Rattle.mod_tree.specs.DependencyLine.{is_dependency_line, own_path, pieces_after, line_path}
+use Rattle.mod_tree.specs.DependencyLine.{has_own_path, is_dependency_line, line_path, own_path}
+use Rattle.mod_tree.specs.DependencyLine.{pieces_after}
 use Rattle.mod_tree.proofs.PieceSteps.{front_no, needed-next, needed-none}
 
 -- ---- what a search finds
@@ -243,6 +244,49 @@ module _ (line own after : List ℕ) (first : own ≡ before_first is_separator 
           path
           ∙ ap (λ ys. cond (is_module_path own && are_needed (slice_split (λ b. b == 32) ys))
           (Some own) None) (sym (ap (drop 1) e))
+
+  -- The same of the text's own path: it has none where no colon ends its first path.
+  pub no-own : (length after ≡ 0) ⊎ (slice_index after 0 ≢ 58) → has_own_path line ≡ false
+  no-own bad = go (parts 58 refl line) (rest-of colon line) bad
+    where
+      go : Parts 58 line → RestOf colon line → (length after ≡ 0) ⊎ (slice_index after 0 ≢ 58)
+          → (list_any colon line && is_line_path (own_path line)) ≡ false
+      go (inl (same, none)) (inl (ends, any)) h = ap (λ b. b && is_line_path (own_path line)) any
+      go (inl (same, none)) (inr (y, is, passes, any)) (inl short) =
+          let e : after ≡ y ∷ after_first colon line
+          = after-is ∙ ap (λ ys. drop (length ys) line) same ∙ is in
+          absurd (omega (arith, ap length e, short))
+      go (inl (same, none)) (inr (y, is, passes, any)) (inr other) =
+          let e : after ≡ y ∷ after_first colon line
+          = after-is ∙ ap (λ ys. drop (length ys) line) same ∙ is in
+          absurd (other (ap (λ ys. slice_index ys 0) e ∙ eqb-true y 58 passes))
+      go (inr (parted, some, other)) r h
+          = ap (λ b. list_any colon line && b) (path_parted (own_path line) parted)
+          ∙ and-false (list_any colon line)
+
+  -- Where a colon does, this is its own path, if it is the path of a module.
+  pub own-by-parts : 0 < length after → slice_index after 0 ≡ 58
+      → (own_path line ≡ own) × (has_own_path line ≡ is_module_path own)
+  own-by-parts some is58 = go (parts 58 refl line) (rest-of colon line)
+    where
+      go : Parts 58 line → RestOf colon line
+          → (own_path line ≡ own)
+          × ((list_any colon line && is_line_path (own_path line)) ≡ is_module_path own)
+      go (inr (parted, len, other)) r
+          = absurd (true≢false
+          (sym (eq-eqb (slice_index (rest is_separator line) 0) 58
+          (ap (λ ys. slice_index ys 0) (sym after-is) ∙ is58))
+          ∙ other))
+      go (inl (same, none)) (inl (ends, any)) =
+          let e : after ≡ [] = after-is ∙ ap (λ ys. drop (length ys) line) same ∙ ends in
+          absurd (omega (arith, ap length e, some))
+      go (inl (same, none)) (inr (y, is, passes, any)) =
+          let path : own_path line ≡ own = sym same ∙ sym first in (
+            path,
+            ap (λ b. b && is_line_path (own_path line)) any
+                ∙ path_clean (own_path line) none
+                ∙ ap is_module_path path,
+          )
 
 -- ---- whether there is a separator
 

@@ -18,6 +18,10 @@ is_line_path path = is_module_path path && not (list_any is_separator path)
 abbrev pub own_path : List ℕ → List ℕ
 own_path line = before_first (λ b. b == 58) line
 
+-- Whether a text has a `:`, and what comes before the first one can be a path of a line.
+abbrev pub has_own_path : List ℕ → Bool
+has_own_path text = list_any (λ b. b == 58) text && is_line_path (own_path text)
+
 -- The bytes after the first `:`, split at spaces.
 abbrev pub pieces_after : List ℕ → List (List ℕ)
 pieces_after line = slice_split (λ b. b == 32) (after_first (λ b. b == 58) line)

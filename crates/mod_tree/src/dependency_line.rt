@@ -1,7 +1,9 @@
 // The form of a dependency line, and the paths that it may have.
-ghost use Rattle.std.specs.Prelude.{◌≡◌, ◌==◌, drop, length, option_copied};
+ghost use Rattle.std.specs.Prelude.{◌≡◌, ◌==◌, drop, length, option_copied, true, false};
+ghost use Rattle.std.specs.Prelude.{MatchOption};
 ghost use Rattle.std.specs.List.{before_first, list_any, slice_split};
 ghost use Rattle.mod_tree.specs.DependencyLine.{is_separator, is_line_path, are_needed, line_path};
+ghost use Rattle.mod_tree.specs.DependencyLine.{has_own_path, own_path};
 
 use crate::tree::is_module_path;
 use memchr::memchr3;
@@ -23,6 +25,19 @@ pub fn line_path(line: &[u8]) -> Option<&[u8]>
     } else {
         None
     }
+}
+
+/// Returns the path with which a text begins, up to its first `:`, if it has one and a dependency
+/// line can have this path. modules.dep(5).
+pub fn own_path(text: &[u8]) -> Option<&[u8]>
+    ensures { MatchOption result (has_own_path text.now ≡ false)
+        (λ own. (has_own_path text.now ≡ true) × (own.now ≡ own_path text.now)) }
+{
+    let (own, rest) = split_at_separator(text);
+    if rest.is_empty() || rest[0] != b':' {
+        return None;
+    }
+    if is_module_path(own) { Some(own) } else { None }
 }
 
 /// Returns whether a text can be a path of a dependency line: it is the path of a module, without

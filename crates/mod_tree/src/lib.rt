@@ -12,6 +12,6 @@ mod places;
 mod search;
 mod tree;
 
-pub use dependency_line::{is_line_path, line_path};
+pub use dependency_line::{is_line_path, line_path, own_path};
 pub use search::{Search, parse_search};
 pub use tree::{Tree, TreeFault, choose};

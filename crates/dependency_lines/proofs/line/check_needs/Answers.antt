@@ -57,12 +57,10 @@ returns-then-not-branch-clause-err g c =
     let low : c.loop-place.place < length vs
     = omega (arith, c.loop-place-test.true, c.len-place-end.ensures) in
     let needs
-    = c.in_ok-are_found_good.ensures.good
-    ∙ ap (are_good_needs has)
-    (c.split_at_byte.ensures.after ∙ ap (after_first (λ b. b == 58)) c.text.ensures) in
+    = c.in_ok-are_found_good.ensures.good ∙ ap (are_good_needs has) c.needs-needs.ensures in
     inr (ap (option_map BadLine)
     (here has vs c.loop-place.place c.in_ok-are_found_good.field-0 low
-    c.loop-place.invariant.none (c.requires c.loop-place.place ([], (0, [])) low) needs
+    c.loop-place.invariant.none (c.requires.begin c.loop-place.place ([], (0, [])) low) needs
     c.if-not-branch.true)
     ∙ ap (λ n. Some (BadLine n)) (sym (c.in_ok-from_slice.ensures ∙ c.name.ensures)))
 
@@ -73,13 +71,11 @@ loop-place-preserved g c =
     let low : c.loop-place.place < length vs
     = omega (arith, c.loop-place-test.true, c.len-place-end.ensures) in
     let needs
-    = c.in_ok-are_found_good.ensures.good
-    ∙ ap (are_good_needs has)
-    (c.split_at_byte.ensures.after ∙ ap (after_first (λ b. b == 58)) c.text.ensures) in
+    = c.in_ok-are_found_good.ensures.good ∙ ap (are_good_needs has) c.needs-needs.ensures in
     record {
       none
           = more has vs c.loop-place.place c.in_ok-are_found_good.field-0 low
-          c.loop-place.invariant.none (c.requires c.loop-place.place ([], (0, [])) low) needs
+          c.loop-place.invariant.none (c.requires.begin c.loop-place.place ([], (0, [])) low) needs
           c.if-not-branch.false;
       paths = c.in_ok-are_found_good.ensures.paths;
       lists = c.in_ok-are_found_good.ensures.lists;

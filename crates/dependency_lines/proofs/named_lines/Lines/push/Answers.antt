@@ -20,6 +20,6 @@ returns c =
       c.len-end.ensures,
       c.in_ok-extend_from_slice.ensures.items,
     )
-    (pushed names.items name c.self.inside.lines.items _ _ c.args.number c.args.text start end
-    c.self.invariant
+    (pushed names.items name c.self.inside.lines.items _ _ c.args.number c.args.own c.args.text
+    start end c.self.invariant
     ∙ ap (λ ls. ls ++ (name, (c.args.number, c.args.text.now)) ∷ []) c.self.view_is)
