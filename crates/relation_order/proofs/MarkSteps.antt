@@ -51,6 +51,14 @@ unmarked n y = no-mark (replicate n 0) y (zeros n (y / 64))
     zeros (suc n) zero = refl
     zeros (suc n) (suc k) = zeros n k
 
+-- of the items of an order none is marked in a row without a word
+pub none-marked : (words order : List ℕ) → length words ≡ 0 → filter (has_mark words) order ≡ []
+none-marked words [] short = refl
+none-marked words (y ∷ ys) short =
+    ap (λ b. cond b (y ∷ filter (has_mark words) ys) (filter (has_mark words) ys))
+    (no-mark words y (get_or_past words (y / 64) 0 (omega arith)))
+    ∙ none-marked words ys short
+
 -- one mark more
 marked-one : (words : List ℕ) (item y : ℕ) → item / 64 < length words
     → has_mark (set words (item / 64)

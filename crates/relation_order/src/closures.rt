@@ -197,10 +197,13 @@ fn marked_anywhere(
     marked_items(alloc, order, &all)
 }
 
-/// Lists the marked items of an order.
+/// Lists the marked items of an order. At a row without a word the order isn't looked at.
 fn marked_items(alloc: Global, order: &[usize], row: &[u64]) -> Result<Vec<usize>, AllocError>
     ensures { IfOk result (λ found. found.items ≡ filter (has_mark row.now) order.now) }
 {
+    if row.is_empty() {
+        return Ok(Vec::new(alloc));
+    }
     order
         .iter()
         .copied()
