@@ -1,19 +1,16 @@
 -- Parameters, a field or a value more at a time.
-use Rattle.std.proofs.Common.{◌≡◌, ℕ, ◌+◌, ◌<◌, Bool, true, false, cond, not, List, [], ◌∷◌, ◌++◌}
+use Rattle.std.proofs.Common.{◌≡◌, ℕ, ◌+◌, ◌<◌, Bool, true, false, cond, List, [], ◌∷◌, ◌++◌}
 use Rattle.std.proofs.Common.{Bor, length, take, get_or, map, filter, option_map, Option, Some}
-use Rattle.std.proofs.Common.{None, is_some, option_copied, refl, sym, ap, ◌∙◌}
+use Rattle.std.proofs.Common.{None, refl, sym, ap, ◌∙◌}
 use Rattle.std.specs.List.{find, slice_get}
-use Rattle.std.specs.Map.{lookup}
 use Rattle.std.specs.Option.{option_or}
 use Rattle.std.specs.Str.{bytes_eq}
-use Rattle.std.proofs.lemmas.Cmp.{nat_list_eq_equiv}
 use Rattle.std.proofs.lemmas.List.{take_more}
 use Rattle.std.proofs.lemmas.List.Folds.{find-append}
 use Rattle.modinfo_fields.specs.declared.piece.Field.{Field}
 use Rattle.modinfo_fields.specs.Fields.{parameter_of, description_of}
 use Rattle.modinfo_tool.specs.Parameters.{is_parameter, parameter_names, first_told, described}
 use Rattle.name_table.specs.FirstSeen.{first_seen}
-use Rattle.name_table.specs.declared.key.NameKey.{NameKey}
 use Rattle.modinfo_tool.proofs.LineSteps.{passing-taken, passing-left}
 
 map-push : (xs : List Field) (x : Field)
@@ -82,50 +79,17 @@ first_told-next values i value name within here =
     (option_map description_of (find (λ v. bytes_eq (parameter_of v) name) (take i values))))
     (told-one name value (bytes_eq (parameter_of value) name) refl)
 
--- what a look-up didn't find isn't there
-pub absent : {X : Type 0} (found : Option (Bor X)) (told : Option X) (none : Bool)
-    → option_copied found ≡ told → is_some found ≡ not none → none ≡ true → told ≡ None
-absent None told none is some missing = sym is
-absent (Some x) told none is some missing =
-    let wrong : true ≡ false = rw missing at some in cc
-
-told-push : (test : NameKey → Bool) (es : List (NameKey × Bor (List ℕ))) (k : NameKey)
-    (v : Bor (List ℕ))
-    → option_map (λ (t : Bor (List ℕ)). t.now) (lookup test (es ++ (k, v) ∷ []))
-    ≡ option_or (option_map (λ (t : Bor (List ℕ)). t.now) (lookup test es))
-    (cond (test k) (Some v.now) None)
-told-push test [] k v =
-    elim (test k) as
-    (λ b. option_map (λ (t : Bor (List ℕ)). t.now) (cond b (Some v) None)
-    ≡ cond b (Some v.now) None) [ true ↦ refl | false ↦ refl ]
-told-push test (e ∷ es) k v =
-    elim (test e.0) as
-    (λ b. option_map (λ (t : Bor (List ℕ)). t.now)
-    (cond b (Some e.1) (lookup test (es ++ (k, v) ∷ [])))
-    ≡ option_or
-    (option_map (λ (t : Bor (List ℕ)). t.now) (cond b (Some e.1) (lookup test es)))
-    (cond (test k) (Some v.now) None)) [
-      | true ↦ refl
-      | false ↦ told-push test es k v
-    ]
-
--- a new description goes to the end of the entries
-pub put-last : (old new : List (NameKey × Bor (List ℕ))) (k : NameKey) (v : Bor (List ℕ))
-    (other : List ℕ)
-    → new ≡ old ++ (k, v) ∷ []
-    → option_map (λ (t : Bor (List ℕ)). t.now)
-    (lookup (λ (key : NameKey). bytes_eq other key.bytes.now) new)
-    ≡ option_or (option_map (λ (t : Bor (List ℕ)). t.now)
-    (lookup (λ (key : NameKey). bytes_eq other key.bytes.now) old))
-    (cond (bytes_eq k.bytes.now other) (Some v.now) None)
-put-last old new k v other is =
-    ap (λ es. option_map (λ (t : Bor (List ℕ)). t.now)
-    (lookup (λ (key : NameKey). bytes_eq other key.bytes.now) es)) is
-    ∙ told-push (λ key. bytes_eq other key.bytes.now) old k v
-    ∙ ap (λ b. option_or
-    (option_map (λ (t : Bor (List ℕ)). t.now)
-    (lookup (λ (key : NameKey). bytes_eq other key.bytes.now) old))
-    (cond b (Some v.now) None)) (nat_list_eq_equiv.symm other k.bytes.now)
+-- a table of descriptions with one more, unless its name had one
+pub told-more : (new old : Option (Bor (List ℕ))) (rest : Bor (List ℕ)) (same : Bool)
+    → new ≡ option_or old (cond same (Some rest) None)
+    → option_map (λ (t : Bor (List ℕ)). t.now) new
+    ≡ option_or (option_map (λ (t : Bor (List ℕ)). t.now) old) (cond same (Some rest.now) None)
+told-more new old rest true is =
+    ap (option_map (λ (t : Bor (List ℕ)). t.now)) is
+    ∙ or-map (λ (t : Bor (List ℕ)). t.now) old (Some rest)
+told-more new old rest false is =
+    ap (option_map (λ (t : Bor (List ℕ)). t.now)) is
+    ∙ or-map (λ (t : Bor (List ℕ)). t.now) old None
 
 -- the values of parameters by two tables that have what the fields tell
 pub all-described : (names : List (List ℕ))

@@ -1,9 +1,6 @@
 // The parameters that the fields of a module describe.
 
-ghost use Rattle.std.specs.Prelude.{◌≡◌, ℕ, List, IfOk, OnOk, map, option_map, Some, None};
-ghost use Rattle.std.specs.Prelude.{if◌then◌else◌};
-ghost use Rattle.std.specs.Option.{option_or};
-ghost use Rattle.std.specs.Str.{bytes_eq};
+ghost use Rattle.std.specs.Prelude.{◌≡◌, ℕ, List, IfOk, map, option_map};
 ghost use Rattle.modinfo_tool.specs.Parameters.{is_parameter, parameter_names, first_told};
 ghost use Rattle.modinfo_tool.specs.Parameters.{described, parameter_values};
 ghost use Rattle.modinfo_tool.specs.Tables.{told_in};
@@ -11,7 +8,7 @@ ghost use Rattle.modinfo_tool.specs.Tables.{told_in};
 use indexmap::IndexMap;
 use km_names::{Blob, Texts, split_at_byte};
 use modinfo_fields::{Field, FieldList};
-use name_table::{NameHash, NameKey, NameSet};
+use name_table::{NameHash, NameKey, NameSet, keep_first};
 use std::alloc::{AllocError, Global};
 use std::hash::BuildHasherDefault;
 
@@ -75,7 +72,7 @@ fn first_told<'a>(alloc: Global, values: &'a [Blob]) -> Result<Told<'a>, AllocEr
     let mut told = IndexMap::with_hasher(alloc, BuildHasherDefault::new());
     for value in values {
         let (name, rest) = split_at_byte(value.as_bytes(), b':');
-        keep_first(&mut told, name, rest)?;
+        keep_first(&mut told, NameKey::new(name), rest)?;
     }
     Ok(told)
 }
@@ -102,19 +99,6 @@ fn described_all(
 
 /// Descriptions of parameters, by the parameters' names.
 type Told<'a> = IndexMap<NameKey<'a>, &'a [u8], NameHash>;
-
-/// Inserts a description under a name, unless the name has one.
-fn keep_first<'a>(told: &mut Told<'a>, name: &'a [u8], rest: &'a [u8]) -> Result<(), AllocError>
-    ensures ok { OnOk result ((other : List ℕ) → told_in told.new other
-        ≡ option_or (told_in told.old other)
-        (if bytes_eq name.now other then Some rest.now else None)) }
-{
-    let key = NameKey::new(name);
-    if told.get(&key).is_none() {
-        told.insert(key, rest)?;
-    }
-    Ok(())
-}
 
 /// Returns the value of a parameter, by the descriptions of all.
 fn describe_by(

@@ -1,19 +1,15 @@
 // The names that symbols state in a role, each with the first symbol that states it.
 
 ghost use Rattle.std.specs.Prelude.{◌≡◌, ◌<◌, ◌+◌, ◌-◌, ◌^◌, nat_eq, ℕ, List, [], ◌∷◌, ◌++◌};
-ghost use Rattle.std.specs.Prelude.{Option};
-ghost use Rattle.std.specs.Prelude.{Some, None, OnOk, OnErr, option_copied, if◌then◌else◌};
+ghost use Rattle.std.specs.Prelude.{Option, OnOk, option_copied};
 ghost use Rattle.std.specs.Cmp.Lexicographic.{bytes_decides, pointwise, nat_list_eq_equiv};
 ghost use Rattle.std.specs.Cmp.{partial_equiv_from_equiv, on_per, on_equiv};
-ghost use Rattle.std.specs.Option.{option_or};
-ghost use Rattle.std.specs.Str.{bytes_eq};
 ghost use Rattle.std.proofs.Common.{ap};
-ghost use Rattle.indexmap.specs.IndexMap.{get_by, IsUnchanged};
 ghost use Rattle.name_table.specs.NameTable.{IsTableOf, place_of};
 ghost use Rattle.module_symbols.specs.Hashed.{hashed_parts};
 
 use indexmap::IndexMap;
-use name_table::NameHash;
+use name_table::{NameHash, keep_first};
 use std::alloc::{AllocError, Global};
 use std::hash::{BuildHasherDefault, Hash, Hasher};
 use std::marker::Model;
@@ -108,7 +104,7 @@ impl<'a> StatedNames<'a> {
         ensures count { OnOk result (self.new.count ≡ self.old.count + 1) }
     {
         if let Some(name) = name {
-            keep_first(&mut self.places, name, self.count)?;
+            keep_first(&mut self.places, StatedKey::new(name), self.count)?;
         }
         self.count += 1;
         Ok(())
@@ -120,23 +116,4 @@ impl<'a> StatedNames<'a> {
     {
         self.places.get(&StatedKey::new(name)).copied()
     }
-}
-
-/// Inserts a name with its place. A name that is already there gets back its old place. So a new
-/// name, as most are, is looked up once.
-fn keep_first<'a>(
-    places: &mut IndexMap<StatedKey<'a>, u32, NameHash>,
-    name: &'a [u8],
-    place: u32,
-) -> Result<(), AllocError>
-    ensures ok { OnOk result ((other : List ℕ) → get_by (λ k. bytes_eq other k.bytes.now) places.new
-        ≡ option_or (get_by (λ k. bytes_eq other k.bytes.now) places.old)
-        (if bytes_eq name.now other then Some place else None)) }
-    ensures err { OnErr result (IsUnchanged places.old places.new) }
-{
-    let key = StatedKey::new(name);
-    if let Some(first) = places.insert(key, place)? {
-        places.insert(key, first)?;
-    }
-    Ok(())
 }

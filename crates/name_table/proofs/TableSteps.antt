@@ -3,6 +3,7 @@ use Rattle.std.proofs.Common.{◌≡◌, ℕ, ◌+◌, Bool, true, false, Bor, L
 use Rattle.std.proofs.Common.{length, map, Option, Some, None, is_some, option_copied, unwrap_or}
 use Rattle.std.proofs.Common.{not, refl, sym, ap, subst, ◌∙◌, arith, add-zero, zero-add}
 use Rattle.std.proofs.Common.{length-append}
+use Rattle.std.specs.Cmp.{IsEquivalence}
 use Rattle.std.proofs.lemmas.Iterator.Adapters.{position_from-zero}
 use Rattle.std.proofs.lemmas.Cmp.{nat_list_eq_equiv}
 use Rattle.std.specs.List.{position_from}
@@ -10,6 +11,11 @@ use Rattle.std.specs.Map.{lookup}
 use Rattle.std.specs.Option.{option_or}
 use Rattle.std.specs.Str.{bytes_eq}
 use Rattle.name_table.specs.NameTable.{Table, IsTableOf, states, first_place, place_of}
+use Rattle.name_table.specs.declared.key.NameKey.{NameKey}
+
+-- a list of bytes as a key
+abbrev pub key_of : List ℕ → NameKey
+key_of bytes = record { bytes = record { ref_ptr = (0, 0); now = bytes } }
 
 module _ {K : Type 0} (bytes : K → List ℕ) where
   -- a look-up among keys is one among their bytes
@@ -54,17 +60,25 @@ put-last bytes old new k place name other is key =
     ∙ ap (λ b. option_or (lookup (λ k. bytes_eq other (bytes k)) old) (cond b (Some place) None))
     (nat_list_eq_equiv.symm other name)
 
--- an entry of a name that had one keeps it, and one that had none gets this place
-pub kept : (same : Bool) (new old held : Option ℕ) (first place : ℕ)
-    → new ≡ cond same (Some first) old → first ≡ unwrap_or held place → (same ≡ true → old ≡ held)
-    → new ≡ option_or old (cond same (Some place) None)
-kept true new old None first place is value found = rw (found refl) (is ∙ ap Some value)
-kept true new old (Some v) first place is value found = rw (found refl) (is ∙ ap Some value)
-kept false new None held first place is value found = is
-kept false new (Some v) held first place is value found = is
+-- equal keys have one value
+pub lookup-same : {K X : Type 0} {eq : K → K → Bool} → IsEquivalence eq → (es : List (K × X))
+    (key other : K)
+    → eq key other ≡ true → lookup (eq other) es ≡ lookup (eq key) es
+lookup-same {K} {X} {eq} laws es key other same =
+    let tests : eq key ≡ eq other = λ i k. laws.congr key other k same i in
+    ap (λ (test : K → Bool). lookup test es) (sym tests)
 
--- of two values that are put under one name the second stands
-pub put_twice : (same : Bool) (new between old first second : Option ℕ)
+-- a key that had a value keeps it, and one that had none gets this one
+pub kept : {X : Type 0} (same : Bool) (new old held : Option X) (first value : X)
+    → new ≡ cond same (Some first) old → first ≡ unwrap_or held value → (same ≡ true → old ≡ held)
+    → new ≡ option_or old (cond same (Some value) None)
+kept true new old None first value is held found = rw (found refl) (is ∙ ap Some held)
+kept true new old (Some v) first value is held found = rw (found refl) (is ∙ ap Some held)
+kept false new None o first value is held found = is
+kept false new (Some v) o first value is held found = is
+
+-- of two values that are put under one key the second stands
+pub put_twice : {X : Type 0} (same : Bool) (new between old first second : Option X)
     → new ≡ cond same second between → between ≡ cond same first old → new ≡ cond same second old
 put_twice true new between old first second last once = last
 put_twice false new between old first second last once = last ∙ once

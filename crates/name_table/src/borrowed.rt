@@ -1,10 +1,8 @@
-ghost use Rattle.std.specs.Prelude.{◌≡◌, ◌<◌, ◌+◌, ◌-◌, ◌^◌, ℕ, List, [], ◌∷◌, ◌++◌, Option, Some};
-ghost use Rattle.std.specs.Prelude.{None, OnOk, OnErr, IfOk, option_copied, if◌then◌else◌};
-ghost use Rattle.std.specs.Option.{option_or};
-ghost use Rattle.std.specs.Str.{bytes_eq};
-ghost use Rattle.indexmap.specs.IndexMap.{get_by, IsUnchanged};
+ghost use Rattle.std.specs.Prelude.{◌≡◌, ◌<◌, ◌+◌, ◌-◌, ◌^◌, ℕ, List, [], ◌∷◌, ◌++◌, Option};
+ghost use Rattle.std.specs.Prelude.{OnOk, OnErr, IfOk, option_copied};
 ghost use Rattle.name_table.specs.NameTable.{IsTableOf, place_of};
 
+use crate::first::keep_first;
 use crate::key::{NameHash, NameKey};
 use indexmap::IndexMap;
 use std::alloc::{AllocError, Global};
@@ -27,25 +25,6 @@ impl<'a> Model for NameTable<'a> {
 
     ghost view = { λ t. record
         { entries = map (λ e. (e.0.bytes.now, e.1)) t.places.entries; count = t.count } };
-}
-
-/// Inserts a name with its place. A name that is already there gets back its old place. So a new
-/// name, as most are, is looked up once.
-fn keep_first<'a>(
-    places: &mut IndexMap<NameKey<'a>, u32, NameHash>,
-    name: &'a [u8],
-    place: u32,
-) -> Result<(), AllocError>
-    ensures ok { OnOk result ((other : List ℕ) → get_by (λ k. bytes_eq other k.bytes.now) places.new
-        ≡ option_or (get_by (λ k. bytes_eq other k.bytes.now) places.old)
-        (if bytes_eq name.now other then Some place else None)) }
-    ensures err { OnErr result (IsUnchanged places.old places.new) }
-{
-    let key = NameKey::new(name);
-    if let Some(first) = places.insert(key, place)? {
-        places.insert(key, first)?;
-    }
-    Ok(())
 }
 
 impl<'a> NameTable<'a> {
@@ -80,7 +59,7 @@ impl<'a> NameTable<'a> {
         ensures err { OnErr result (self.new ≡ self.old) }
     {
         if let Some(name) = name {
-            keep_first(&mut self.places, name, self.count)?;
+            keep_first(&mut self.places, NameKey::new(name), self.count)?;
         }
         self.count += 1;
         Ok(())

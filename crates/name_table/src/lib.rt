@@ -2,8 +2,9 @@
 //!
 //! A table is filled item by item, from the first on. It keeps each name once, in the order the
 //! names are first stated in. `NameTable` borrows the names from the items. `OwnedNameTable` keeps
-//! copies, for tables that outlive the items. Other tables of names take `NameKey` or
-//! `OwnedNameKey` for keys and `NameHash` for the hasher.
+//! copies, for tables that outlive the items. Other tables of names take `NameKey`, `OwnedNameKey`
+//! or keys of their own, and `NameHash` for the hasher. `keep_first` fills those in which the first
+//! value of a key counts.
 //!
 //! The crate uses `indexmap` and hashes names by SipHash-1-3. Inserting a name and looking one up
 //! take the same time however many there are, except for names that were chosen against the hash.
@@ -13,11 +14,13 @@
 #![tactic(auto)]
 
 mod borrowed;
+mod first;
 mod key;
 mod owned;
 mod set;
 
 pub use borrowed::NameTable;
+pub use first::keep_first;
 pub use key::{NameHash, NameKey, OwnedNameKey};
 pub use owned::OwnedNameTable;
 pub use set::NameSet;
