@@ -1,19 +1,17 @@
 -- The stages of a removal, joined.
 use Rattle.std.proofs.Common.{◌≡◌, ◌∙◌, ◌+◌, ◌≤◌, ℕ, Bool, true, false, List, ◌∷◌, Option, Some}
-use Rattle.std.proofs.Common.{None, refl, sym, ap, subst, map, drop, length, inl, inr}
+use Rattle.std.proofs.Common.{None, refl, sym, ap, map, drop, length, inl, inr}
 use Rattle.std.specs.Prelude.{◌⊎◌, Result, Ok, Err, option_map, ⊤}
 use Rattle.std.specs.Option.{option_map_or}
 use Rattle.std.proofs.lemmas.List.{drop_all}
 use Rattle.km_names.specs.First.{first}
-use Rattle.km_course.specs.Course.{Stage, ◌>>=◌, ends, given, gives, says_any}
+use Rattle.km_course.specs.Course.{Stage, ◌>>=◌, given, gives, says_any}
 use Rattle.km_course.specs.Course.Outcome.{value, end}
 use Rattle.km_course.specs.World.{World}
-use Rattle.km_course.specs.Follows.{Answers, Follows}
+use Rattle.km_course.specs.Follows.{Follows}
 use Rattle.km_course.specs.declared.end.End.TheVariants.{Refused}
 use Rattle.km_course.specs.declared.refusal.Refusal.TheVariants.{InUse, RemoveChosen}
 use Rattle.km_course.specs.declared.stop.Stop.{Stop}
-use Rattle.km_course.specs.declared.stop.Stop.TheVariants.{Ended}
-use Rattle.km_course.proofs.Steps.{answered}
 use Rattle.km_course.proofs.Following.{along}
 use Rattle.kmod_words.specs.declared.modprobe.ModprobeWords.{ModprobeWords}
 use Rattle.kmod_words.specs.Modprobe.{region_asked}
@@ -25,7 +23,6 @@ use Rattle.model_unload.specs.declared.UnloadFault.{UnloadFault}
 use Rattle.model_unload.specs.declared.UnloadFault.TheVariants as UnloadFaults
 use Rattle.model_unload.specs.Unload.{first_user, place_of, unload_all, unloaded, unloaded_at}
 use Rattle.model_unload.specs.Unload.{unless_refused}
-use Rattle.name_lookup.specs.declared.indexes.Indexes.{Indexes}
 use Rattle.remove_plan.specs.declared.step.RemoveStep.{RemoveStep}
 use Rattle.remove_plan.specs.declared.step.RemoveFault.{RemoveFault}
 use Rattle.remove_plan.specs.declared.step.RemoveFault.TheVariants as faults
@@ -37,20 +34,14 @@ use Rattle.stages_loads.specs.Tables.{reads_machine}
 use Rattle.command_remove.specs.declared.course.Removal.{Removal}
 use Rattle.command_remove.specs.declared.course.Sources.{Sources}
 use Rattle.command_remove.specs.Over.{removes_over}
-use Rattle.stages_loads.specs.Listed.{loads_listed}
 use Rattle.command_remove.specs.Lines.{left_lines, step_lines}
 use Rattle.command_remove.specs.Remove.{carries_out, chosen_outcome, command_owner, first_owner}
 use Rattle.command_remove.specs.Remove.{removal_of, removes, removes_listed, removes_names}
 use Rattle.km_course.specs.Course.{value_unless}
 use Rattle.command_remove.specs.Remove.{step_name, steps_outcome, steps_unless}
 use Rattle.command_remove.specs.Remove.{unloads_unless, without_named}
-use Rattle.command_remove.specs.Listed.{well_formed_path}
 
 -- ---- the stages after each part of a removal
-
-abbrev pub taken_others : List ℕ → Indexes → List (List ℕ) → Machine → Stage Machine
-taken_others folder indexes names machine =
-    loads_listed folder (well_formed_path indexes) machine names
 
 abbrev pub after_left : Machine → Stage ⊤
 after_left left = says_any (left_lines left.entries)
