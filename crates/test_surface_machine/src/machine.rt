@@ -85,13 +85,13 @@ fn regions_are_whole_pages(rt: &impl Abort) {
 pub(crate) const BASE: u64 = 0xffff_ffff_c000_0000;
 
 /// Reads the table of a Module.symvers.
-fn kernel_of(rt: &impl Abort, alloc: Global, symvers: &[u8]) -> Kernel {
+pub(crate) fn kernel_of(rt: &impl Abort, alloc: Global, symvers: &[u8]) -> Kernel {
     holds(rt, symvers.len() <= 67_108_864);
     Kernel::from_symvers(alloc, symvers).expect(rt, "a kernel")
 }
 
 /// Reads the table of a kernel that exports `printk`, with its address.
-fn kernel_of_printk(rt: &impl Abort, alloc: Global) -> Kernel {
+pub(crate) fn kernel_of_printk(rt: &impl Abort, alloc: Global) -> Kernel {
     let symvers = b"0x11111111\tprintk\tvmlinux\tEXPORT_SYMBOL\n".as_slice();
     let mut kernel = kernel_of(rt, alloc, symvers);
     kernel
@@ -120,7 +120,7 @@ pub(crate) fn read(
 }
 
 /// Reads the module of a sheet.
-fn module_of(rt: &impl Abort, alloc: Global, at: &[u8], row: &SheetRow) -> Module {
+pub(crate) fn module_of(rt: &impl Abort, alloc: Global, at: &[u8], row: &SheetRow) -> Module {
     let bytes = object_of(alloc, row).expect(rt, "an object");
     read(rt, alloc, at, bytes).expect(rt, "a module")
 }

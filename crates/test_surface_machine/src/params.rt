@@ -17,7 +17,7 @@ use tree_gen::{SheetParam, SheetParams, param_object};
 static TWO: [(&[u8], &[u8]); 2] = [(b"depth", b"int"), (b"raw", b"bool")];
 
 /// Returns a name.
-fn name_of(rt: &impl Abort, alloc: Global, text: &[u8]) -> Name {
+pub(crate) fn name_of(rt: &impl Abort, alloc: Global, text: &[u8]) -> Name {
     Name::from_slice(alloc, text).expect(rt, "a name")
 }
 

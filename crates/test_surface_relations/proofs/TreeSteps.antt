@@ -1,6 +1,6 @@
 -- Trees of two modules, and lists of few items.
-use Rattle.std.proofs.Common.{◌≡◌, ◌∷◌, [], List, ℕ, length, All, AllPairs, subst, sym, arith}
-use Rattle.std.proofs.lemmas.List.Elements.{All-nil, All-cons, All-push}
+use Rattle.std.proofs.Common.{◌≡◌, ◌∷◌, [], List, All, AllPairs, subst, sym, arith}
+use Rattle.std.proofs.lemmas.List.Elements.{All-nil, All-cons}
 use Rattle.std.proofs.lemmas.List.Quantifiers.{all_pairs_push}
 use Rattle.module_facts.specs.declared.facts.Facts.{Facts}
 use Rattle.provider_rel.specs.Tree.{IsTree, IsTreeModule}

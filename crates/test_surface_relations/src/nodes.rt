@@ -1,8 +1,9 @@
 //! Device nodes, their text, and its reader.
 
+use crate::lists::texts;
 use crate::same::{holds, shown};
 use devname_nodes::{NodeList, nodes, nodes_text, read_nodes};
-use km_names::{Blob, ConfFault, Name, Names, PathText, Texts};
+use km_names::{ConfFault, Name, Names, PathText, Texts};
 use module_facts::{Exports, Facts, Needs};
 use provider_rel::TreeFacts;
 use std::alloc::Global;
@@ -13,15 +14,8 @@ fn path(rt: &impl Abort, alloc: Global, text: &[u8]) -> PathText {
     PathText::from_slice(alloc, text).expect(rt, "a path")
 }
 
-/// Returns the aliases of `fuse`, which state its device and its number.
-fn aliases_of_fuse(rt: &impl Abort, alloc: Global) -> Texts {
-    let mut aliases = Texts::new(alloc);
-    for alias in [b"devname:fuse".as_slice(), b"char-major-10-229"] {
-        let text = Blob::from_slice(alloc, alias).expect(rt, "bytes");
-        aliases.push(text).expect(rt, "aliases");
-    }
-    aliases
-}
+/// The aliases of `fuse`, which state its device and its number.
+static ALIASES: [&[u8]; 2] = [b"devname:fuse", b"char-major-10-229"];
 
 /// Returns the facts of `fuse`.
 fn facts_of_fuse(rt: &impl Abort, alloc: Global) -> Facts {
@@ -30,7 +24,7 @@ fn facts_of_fuse(rt: &impl Abort, alloc: Global) -> Facts {
         name: Name::from_slice(alloc, b"fuse").expect(rt, "a name"),
         exports: Exports::new(alloc),
         needs: Needs::new(alloc),
-        aliases: aliases_of_fuse(rt, alloc),
+        aliases: texts(rt, alloc, &ALIASES),
         softdeps: Texts::new(alloc),
         free: true,
         imports: Names::new(alloc),

@@ -1,4 +1,4 @@
-//! The kernel's table, the relation of a tree and depmod's files.
+//! The relation of a tree, and depmod's files.
 ghost use Rattle.std.specs.Prelude.{◌≡◌, ◌==◌, [], ◌∷◌, not, length, All, AllPairs};
 ghost use Rattle.std.specs.Prelude.{IfOk, IsTrue};
 ghost use Rattle.std.specs.List.{list_any};
@@ -7,99 +7,31 @@ ghost use Rattle.provider_rel.specs.Seen.{closures_by};
 ghost use Rattle.provider_rel.specs.Tree.{IsTree, IsTreeModule};
 ghost use Rattle.depmod_core.specs.Files.{IsRelationOf};
 
+use crate::kernels::usual_kernel;
+use crate::lists::texts;
 use crate::same::{holds, shown};
 use depmod_core::{OutputFault, OutputFiles, outputs};
-use km_names::{List, Name, Names, PathText, Texts, TreeIndex, is_graphic};
+use km_names::{List, Name, Names, PathText, TreeIndex, is_graphic};
 use module_facts::{Export, Exports, Facts, Need, Needs};
-use provider_rel::{Kernel, KernelExports, KernelFault, Relation, RelationFault, TreeFacts, agree};
+use provider_rel::{Relation, RelationFault, TreeFacts, agree};
 use std::alloc::Global;
 use std::process::Abort;
-
-// Each table is read by a function that promises nothing.
-
-/// Reads the addresses of a System.map into a table.
-fn add(rt: &impl Abort, kernel: &mut Kernel, map: &[u8]) -> Result<(), KernelFault> {
-    holds(rt, map.len() <= 67_108_864);
-    kernel.add_addresses(map)
-}
-
-/// Reads the table of a System.map.
-fn mapped(rt: &impl Abort, alloc: Global, map: &[u8]) -> Result<Kernel, KernelFault> {
-    holds(rt, map.len() <= 67_108_864);
-    Kernel::from_map(alloc, map)
-}
-
-/// Reads the table of a Module.symvers.
-fn kernel_of(rt: &impl Abort, alloc: Global, symvers: &[u8]) -> Kernel {
-    holds(rt, symvers.len() <= 67_108_864);
-    Kernel::from_symvers(alloc, symvers).expect(rt, "a kernel")
-}
-
-fn a_kernel_of_ones_own_is_made(rt: &impl Abort, alloc: Global) {
-    let kernel = Kernel {
-        known: true,
-        exports: KernelExports::new(alloc),
-    };
-    let parts = (
-        kernel.known,
-        kernel.exports.len(),
-        Kernel::unknown(alloc).known,
-    );
-    shown(rt, alloc, parts, "(true, 0, false)");
-}
-
-/// The table of a kernel that exports `printk`.
-static SYMVERS: &[u8] = b"0x11111111\tprintk\tvmlinux\tEXPORT_SYMBOL\n";
-
-/// Its addresses.
-static SYSTEM_MAP: &[u8] = b"ffffffff81000000 T printk\n";
-
-/// Reads the table of that kernel, without the addresses.
-fn usual_kernel(rt: &impl Abort, alloc: Global) -> Kernel {
-    kernel_of(rt, alloc, SYMVERS)
-}
-
-/// What that kernel exports. All modules may use it.
-static EXPORTS: &str =
-    r#"List { elements: [KernelExport { name: "printk", crc: Some(286331153), address: None, gpl: false, space: "" }] }"#;
-
-/// The same with the address.
-static PLACED: &str =
-    r#"List { elements: [KernelExport { name: "printk", crc: Some(286331153), address: Some(18446744071578845184), gpl: false, space: "" }] }"#;
-
-fn kernels_are_read(rt: &impl Abort, alloc: Global) {
-    let mut kernel = usual_kernel(rt, alloc);
-    shown(rt, alloc, &kernel.exports, EXPORTS);
-    shown(rt, alloc, add(rt, &mut kernel, SYSTEM_MAP), "Ok(())");
-    shown(rt, alloc, &kernel.exports, PLACED);
-}
-
-/// A System.map that shows an export.
-static KSYMTAB: &[u8] = b"ffffffff81000000 T printk\nffffffff82000000 r __ksymtab_printk\n";
-
-/// Whether it is known what its kernel exports, and that.
-static MAPPED: &str =
-    r#"(true, List { elements: [KernelExport { name: "printk", crc: None, address: Some(18446744071578845184), gpl: false, space: "" }] })"#;
-
-fn kernels_are_read_from_maps(rt: &impl Abort, alloc: Global) {
-    let kernel = mapped(rt, alloc, KSYMTAB).expect(rt, "a kernel");
-    shown(rt, alloc, (kernel.known, &kernel.exports), MAPPED);
-    let refused = mapped(rt, alloc, b"\n1 T  a").err();
-    shown(rt, alloc, refused, "Some(BadKernelLine { line: 2 })");
-}
 
 fn versions_agree(rt: &impl Abort) {
     holds(rt, agree(Some(0x1234_5678), None));
     holds(rt, !agree(Some(0x1_1234_5678), Some(0x1234_5678)));
 }
 
-/// What a module of a test states: its path, its name, its export and its need.
+/// What a module of a test states: its path, its name, its export, its need, its aliases, and the
+/// texts of its soft dependencies.
 #[derive(Clone, Copy)]
-struct ModuleRow {
-    path: &'static [u8],
-    name: &'static [u8],
-    export: &'static [u8],
-    need: &'static [u8],
+pub(crate) struct ModuleRow {
+    pub(crate) path: &'static [u8],
+    pub(crate) name: &'static [u8],
+    pub(crate) export: &'static [u8],
+    pub(crate) need: &'static [u8],
+    pub(crate) aliases: &'static [&'static [u8]],
+    pub(crate) softdeps: &'static [&'static [u8]],
 }
 
 /// Returns a word of visible characters.
@@ -184,8 +116,8 @@ fn facts(rt: &impl Abort, alloc: Global, row: ModuleRow) -> Facts
         name: word(rt, alloc, row.name),
         exports: one_export(rt, alloc, row.export),
         needs: one_need(rt, alloc, row.need),
-        aliases: Texts::new(alloc),
-        softdeps: Texts::new(alloc),
+        aliases: texts(rt, alloc, row.aliases),
+        softdeps: texts(rt, alloc, row.softdeps),
         free: true,
         imports: Names::new(alloc),
     }
@@ -200,7 +132,12 @@ fn expect_apart(rt: &impl Abort, first: &[u8], second: &[u8])
 }
 
 /// Makes a tree of two modules.
-fn tree_of_two(rt: &impl Abort, alloc: Global, first: ModuleRow, second: ModuleRow) -> TreeFacts
+pub(crate) fn tree_of_two(
+    rt: &impl Abort,
+    alloc: Global,
+    first: ModuleRow,
+    second: ModuleRow,
+) -> TreeFacts
     ensures tree { IsTree result }
     ensures long { length result ≡ 2 }
 {
@@ -217,15 +154,19 @@ fn a_that_needs(need: &'static [u8]) -> ModuleRow {
         name: b"a",
         export: b"fa",
         need,
+        aliases: &[],
+        softdeps: &[],
     }
 }
 
 /// `b`, which exports `fb` and needs `fa`.
-const B: ModuleRow = ModuleRow {
+pub(crate) const B: ModuleRow = ModuleRow {
     path: b"kernel/b.ko",
     name: b"b",
     export: b"fb",
     need: b"fa",
+    aliases: &[],
+    softdeps: &[],
 };
 
 /// Makes the relation of a tree of two modules.
@@ -330,9 +271,6 @@ static TEXTS: &str =
 
 #[test]
 fn relations_are_called(rt: HostRuntime) {
-    a_kernel_of_ones_own_is_made(&rt, rt.alloc());
-    kernels_are_read(&rt, rt.alloc());
-    kernels_are_read_from_maps(&rt, rt.alloc());
     versions_agree(&rt);
     a_tree_is_related(&rt, rt.alloc());
     a_cycle_is_named(&rt, rt.alloc());

@@ -2,13 +2,16 @@
 //! once, by its public path, with an answer that was worked out by hand.
 //!
 //! A module of it has the calls of one layer: names and words, files and outputs, the words of the
-//! commands, and the tree of a trial. One has a type of files and one of outputs of a user's own.
-//! It builds on `km_names`, `km_outside`, `kmod_words` and `tree_gen`.
+//! commands, the tree of a trial, and what modprobe reads first. One has a type of files and one of
+//! outputs of a user's own. It builds on `km_names`, `km_outside`, `kmod_words`, `tree_gen` and
+//! `stages_known`, with the types that the last one hands out.
 //!
 //! A call with a long contract is made by a function that promises nothing, so that the contract
 //! isn't carried through the test.
 #![tactic(auto)]
 
+#[cfg(test)]
+mod known;
 #[cfg(test)]
 mod lists;
 #[cfg(test)]

@@ -13,7 +13,7 @@ use std::process::Abort;
 // Each call of files has a function that promises nothing.
 
 /// Puts a file.
-fn put(rt: &impl Abort, alloc: Global, files: &mut MemFiles, at: &[u8], bytes: &[u8]) {
+pub(crate) fn put(rt: &impl Abort, alloc: Global, files: &mut MemFiles, at: &[u8], bytes: &[u8]) {
     let at = path(rt, alloc, at);
     files.put(&at, bytes).expect(rt, "a file more");
 }

@@ -1,4 +1,4 @@
-use Rattle.std.proofs.Common.{ℕ, List, IsTrue}
+use Rattle.std.proofs.Common.{IsTrue}
 use Rattle.km_names.specs.Ascii.{is_graphic}
 use Rattle.module_symbols.specs.declared.needs.Need.{Need}
 use Rattle.test_surface_relations.proofs.TreeSteps.{alone}
