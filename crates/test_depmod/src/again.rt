@@ -1,13 +1,13 @@
 // Trees that are changed: indexed again, and with a module that is damaged.
 use crate::indexes::WITH_C;
-use crate::rows::{DONE, KEPT};
 use crate::sheets::{GIVES_FC, GIVES_LONG, LONG_VERSION_17, NEEDS_LONG};
 use outside_calls::CallKind;
 use std::alloc::Global;
 use std::process::Abort;
 use test_objects::{NO_MORE, object_with};
 use test_rows::{
-    Failing, FileRow, INDEX, ModuleRow, Objects, Row, TWO, TWO_FILES, TreeRow, run_next, run_over,
+    DONE, Failing, FileRow, INDEX, KEPT, ModuleRow, Objects, Row, TWO, TWO_FILES, TreeRow,
+    run_next, run_over,
 };
 
 /// Two modules that are indexed for the first time. The third replacement after that fails.

@@ -10,6 +10,7 @@
 mod difference;
 mod file_system;
 mod images;
+mod indexes;
 mod listed;
 mod objects;
 mod row;
@@ -18,9 +19,12 @@ mod runs;
 pub use difference::{Difference, compare_all, compare_seen};
 pub use file_system::{FILE_SYSTEM, FILE_SYSTEM_KERNEL};
 pub use images::image;
+pub use indexes::{
+    NO_ALIASES, NO_KEYS, NO_SOFTDEPS, NO_SYMBOLS, NOSUCH_MISSING, TWO_FILES,
+};
 pub use objects::{Objects, words_of};
 pub use row::{
-    EXTRA, Failing, FileRow, INDEX, INDEXED, ImageRow, ModuleRow, PLAIN, Row, RowOf, SYMVERS,
-    SYSTEM_MAP, TWO, TWO_FILES, TreeRow, USAGE,
+    DONE, EXTRA, Failing, FileRow, INDEX, INDEXED, ImageRow, KEPT, ModuleRow, PLAIN, Row, RowOf,
+    SYMVERS, SYSTEM_MAP, TWO, TreeRow, USAGE,
 };
 pub use runs::{run_first, run_next, run_over, run_tree, run_trees, run_words};

@@ -2,9 +2,6 @@
 use outside_calls::CallKind;
 use test_objects::{GIVES, MoreRow, NEEDS, NO_MORE, SheetRow};
 
-/// An index without keys.
-const NO_KEYS: &[u8] = b"\xb0\x07\xf4W\x00\x02\x00\x01\x00\x00\x00\x0c";
-
 /// The folder of a kernel's modules.
 pub(crate) const FOLDER: &[u8] = b"/r/lib/modules/6.1.0";
 
@@ -61,25 +58,6 @@ pub const SYSTEM_MAP: FileRow<'static> = FileRow {
 pub const TWO: &[ModuleRow<'static>] = &[
     ("kernel/a.ko", &GIVES, &NO_MORE),
     ("kernel/b.ko", &NEEDS, &NO_MORE),
-];
-
-/// The nine files of their index, in the order in which they are replaced. A separate program made
-/// the binary ones from the format.
-pub const TWO_FILES: [&'static [u8]; 9] = [
-    b"kernel/a.ko:\nkernel/b.ko: kernel/a.ko\n",
-    b"\xb0\x07\xf4W\x00\x02\x00\x01 \x00\x00B\
-      \x00\x00\x00\x01\x00\x00\x00\x00kernel/a.ko:\x00\
-      \x00\x00\x00\x01\x00\x00\x00\x01kernel/b.ko: kernel/a.ko\x00\
-      ab@\x00\x00\x0c@\x00\x00!",
-    b"# Aliases extracted from modules themselves.\n",
-    NO_KEYS,
-    b"# Soft dependencies extracted from modules themselves.\n",
-    b"# Aliases for symbols, used by symbol_request().\nalias symbol:fa a\n",
-    b"\xb0\x07\xf4W\x00\x02\x00\x01 \x00\x00\x1f\
-      ymbol:fa\x00\x00\x00\x00\x01\x00\x00\x00\x00a\x00\
-      ss\xc0\x00\x00\x0c",
-    NO_KEYS,
-    b"",
 ];
 
 /// The words that index the tree over the usual table.
@@ -150,4 +128,19 @@ pub const INDEXED: TreeRow<'static> = TreeRow {
     files: &[SYMVERS],
     first: INDEX,
     ..PLAIN
+};
+
+/// The usual words over the usual table and an old index, done: the nine files are replaced.
+pub const DONE: TreeRow<'static> = TreeRow {
+    files: &[SYMVERS],
+    is_old: true,
+    rows: &[(INDEX, 0, "", "")],
+    replaced: 9,
+    ..PLAIN
+};
+
+/// Over the same, but no file is replaced.
+pub const KEPT: TreeRow<'static> = TreeRow {
+    replaced: 0,
+    ..DONE
 };

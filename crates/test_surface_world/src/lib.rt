@@ -2,8 +2,8 @@
 //! once, by its public path, with an answer that was worked out by hand.
 //!
 //! A module of it has the calls of one layer: names and words, files and outputs, the words of the
-//! commands, the tree of a trial, and what modprobe reads first. One has a type of files and one of
-//! outputs of a user's own. It builds on `km_names`, `km_outside`, `kmod_words`, `tree_gen` and
+//! commands, the tree of a trial, and what modprobe reads first. Files and outputs of a user's own
+//! are in `test_streams`. It builds on `km_names`, `km_outside`, `kmod_words`, `tree_gen` and
 //! `stages_known`, with the types that the last one hands out.
 //!
 //! A call with a long contract is made by a function that promises nothing, so that the contract
@@ -16,8 +16,6 @@ mod known;
 mod lists;
 #[cfg(test)]
 mod names;
-#[cfg(test)]
-mod one_file;
 #[cfg(test)]
 mod outside;
 #[cfg(test)]

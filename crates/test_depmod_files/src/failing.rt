@@ -1,9 +1,8 @@
 // Calls on files and writes that fail, each in turn. The files that were replaced before are new,
 // and all others are as they were.
 use crate::indexes::PRINTK_MISSING;
-use crate::rows::{DONE, KEPT};
 use outside_calls::CallKind;
-use test_rows::{Failing, FileRow, INDEX, TWO, TWO_FILES, TreeRow, run_trees};
+use test_rows::{DONE, Failing, FileRow, INDEX, KEPT, TWO, TWO_FILES, TreeRow, run_trees};
 
 /// The tree, where no file is replaced.
 const KEPT_TWO: TreeRow<'static> = TreeRow {

@@ -1,8 +1,6 @@
 //! Files and an output of a user's own, by the calls that have no body of their own.
 ghost use Rattle.std.specs.Prelude.{None, true};
 
-use crate::lists::path;
-use crate::same::{holds, same};
 use km_names::{Blob, FILE_LIMIT, Names, PathText, Paths};
 use km_outside::{FileAnswer, FileBuffer, Files, Out, OutFailed, Reads, ReplaceAnswer, Writes};
 use std::alloc::Global;
@@ -134,30 +132,30 @@ fn write_both<O: Out>(out: &mut O) -> Result<(), OutFailed> {
 #[test]
 fn an_output_of_a_users_own(rt: HostRuntime) {
     let mut out = ByteCount { count: 0 };
-    holds(&rt, write_both(&mut out) == Ok(()));
-    holds(&rt, out.count == 5);
+    assert_eq!(rt; write_both(&mut out), Ok(()));
+    assert_eq!(rt; out.count, 5);
 }
 
 fn its_file_is_read(rt: &impl Abort, alloc: Global) {
     let mut files = OneFile::new(b"/m/a.ko", b"bytes");
-    let at = path(rt, alloc, b"/m/a.ko");
+    let at = PathText::from_slice(alloc, b"/m/a.ko").expect(rt, "a path");
     let bytes = read(alloc, &mut files, &at).expect(rt, "bytes");
-    same(rt, bytes.as_bytes(), b"bytes");
+    assert_eq!(rt; bytes.as_bytes(), b"bytes");
     let mut buffer = FileBuffer::new(alloc);
     read_into(alloc, &mut files, &at, &mut buffer).expect(rt, "a buffer");
-    same(rt, buffer.as_bytes(), b"bytes");
-    holds(rt, files.absences == 0);
+    assert_eq!(rt; buffer.as_bytes(), b"bytes");
+    assert_eq!(rt; files.absences, 0);
 }
 
 fn others_are_absent(rt: &impl Abort, alloc: Global) {
     let mut files = OneFile::new(b"/m/a.ko", b"bytes");
-    let at = path(rt, alloc, b"/m/b.ko");
+    let at = PathText::from_slice(alloc, b"/m/b.ko").expect(rt, "a path");
     let answer = read(alloc, &mut files, &at).err();
-    holds(rt, answer == Some(FileAnswer::Absent));
-    holds(rt, list(alloc, &mut files, &at) == answer);
+    assert_eq!(rt; answer, Some(FileAnswer::Absent));
+    assert_eq!(rt; list(alloc, &mut files, &at), answer);
     let want = (Some(ReplaceAnswer::Memory), answer);
-    holds(rt, replace_and_list(alloc, &mut files, &at) == want);
-    holds(rt, files.absences == 3);
+    assert_eq!(rt; replace_and_list(alloc, &mut files, &at), want);
+    assert_eq!(rt; files.absences, 3);
 }
 
 #[test]

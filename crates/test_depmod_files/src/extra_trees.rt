@@ -53,8 +53,5 @@ pub(crate) const TWO_BUILT_IN: FileRow<'static> = FileRow {
     bytes: b"snd-b.license=GPL\0a.alias=m*\0snd-b.alias=m?\0snd-b.alias=mm\0a.alias=x\0",
 };
 
-/// The index of an empty map.
-pub(crate) const NO_KEYS: &[u8] = b"\xb0\x07\xf4\x57\x00\x02\x00\x01\x00\x00\x00\x0c";
-
 /// The heading of modules.devname.
 pub(crate) const NO_NODES: &[u8] = b"# Device nodes to trigger on-demand module loading.\n";

@@ -1,10 +1,11 @@
 // Trees that are indexed with `--extra`.
-use crate::extra_trees::{NO_KEYS, NO_NODES, ONE_NODE, TTY, TTY_INDEX, TWO_NODES};
-use crate::indexes::{NOSUCH_MISSING, ONE_NODE_FILES, TWO_NODES_FILES};
-use crate::rows::DONE;
+use crate::extra_trees::{NO_NODES, ONE_NODE, TTY, TTY_INDEX, TWO_NODES};
+use crate::indexes::{ONE_NODE_FILES, TWO_NODES_FILES};
 use outside_calls::CallKind;
 use test_objects::{NEEDS_NOSUCH, NO_MORE};
-use test_rows::{EXTRA, Failing, FileRow, INDEX, SYMVERS, TreeRow, run_trees};
+use test_rows::{
+    DONE, EXTRA, Failing, FileRow, INDEX, NO_KEYS, NOSUCH_MISSING, SYMVERS, TreeRow, run_trees,
+};
 
 /// The index of the built-in alias.
 const TTY_ALIASES: FileRow<'static> = FileRow {
