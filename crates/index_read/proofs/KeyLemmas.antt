@@ -1,7 +1,8 @@
 -- The nodes of an index with their keys.
 use Rattle.std.proofs.Common.{◌≡◌, refl, sym, ap, subst, ◌∙◌, ⊎_elim, ℕ, zero, suc, ◌+◌, ◌-◌, ◌<◌}
 use Rattle.std.proofs.Common.{◌≤◌, List, [], ◌∷◌, ◌++◌, length, take, get_or, Option, Some, None}
-use Rattle.std.proofs.Common.{arith, append_assoc, length-append}
+use Rattle.std.proofs.Common.{arith, append_assoc, length-append, slice_set}
+use Rattle.std.proofs.Math.Seq.{set-append_seam, get_or-append_seam}
 use Rattle.std.proofs.lemmas.Bool.{cases_eq}
 use Rattle.std.proofs.lemmas.List.{append-nil, take_at, take_all, take-append-le}
 use Rattle.std.proofs.lemmas.Grind.{take_at_read}
@@ -16,7 +17,7 @@ use Rattle.index_nodes.specs.declared.node.Node.{Node}
 use Rattle.index_read.specs.declared.walk.Level.{Level}
 use Rattle.index_read.specs.Keys.{Item, all_items, on_child, branches, key_bytes, items, piece}
 use Rattle.index_read.specs.Keys.{key_of, level_items, items_left, IsLevel, AreLevels}
-use Rattle.index_read.specs.Walks.{IsWritten, level_of, after_byte}
+use Rattle.index_read.specs.Walks.{IsTop, IsWritten, front, level_of, after_byte}
 
 -- ---- branches
 
@@ -129,6 +130,27 @@ pub levels-pop : (b : List ℕ) (ls : List Level) (l : Level) → AreLevels b (l
     → AreLevels b ls × IsLevel b l
 levels-pop b [] l h = (tt, h.0)
 levels-pop b (m ∷ ls) l h = let rest = levels-pop b ls l h.1 in ((h.0, rest.0), rest.1)
+
+-- The level that a walk is on is at the last place.
+top_place : (ls : List Level) (l : Level) → IsTop ls l → length ls - 1 ≡ length (front ls)
+top_place ls l ends =
+    let long = ap length ends ∙ length-append (front ls) (l ∷ []) in
+    omega (arith, long)
+
+-- It is read there.
+pub top_read : (ls : List Level) (l d : Level) → IsTop ls l → get_or ls (length ls - 1) d ≡ l
+top_read ls l d ends =
+    ap (λ n. get_or ls n d) (top_place ls l ends)
+    ∙ ap (λ ms. get_or ms (length (front ls)) d) ends
+    ∙ get_or-append_seam (front ls) l [] d
+
+-- A write there changes it.
+pub top_write : (ls : List Level) (l m : Level) → IsTop ls l
+    → slice_set ls (length ls - 1) m ≡ front ls ++ m ∷ []
+top_write ls l m ends =
+    ap (λ n. slice_set ls n m) (top_place ls l ends)
+    ∙ ap (λ ms. slice_set ms (length (front ls)) m) ends
+    ∙ set-append_seam (front ls) l [] m
 
 pub levels-push : (b : List ℕ) (ls : List Level) (l : Level) → AreLevels b ls → IsLevel b l
     → AreLevels b (ls ++ l ∷ [])

@@ -1,7 +1,7 @@
 -- A walk over the keys of an index: what is still to come, what is written of the key, and the
 -- result of a step. It belongs to the code: no public meaning rests on it.
-use Rattle.std.specs.Prelude.{◌≡◌, ℕ, ◌+◌, ◌≤◌, List, [], ◌∷◌, length, take, Option, Some, None}
-use Rattle.std.specs.Prelude.{Result, Ok, Err}
+use Rattle.std.specs.Prelude.{◌≡◌, ℕ, ◌+◌, ◌-◌, ◌≤◌, List, [], ◌∷◌, ◌++◌, length, take, Option, Some}
+use Rattle.std.specs.Prelude.{None, Result, Ok, Err}
 use Rattle.index_nodes.specs.Fields.{link_of, IsNodeOf}
 use Rattle.index_nodes.specs.declared.node.Node.{Node}
 use Rattle.index_read.specs.declared.walk.Level.{Level}
@@ -43,6 +43,13 @@ level_of n leading = record { node = n; byte = leading; next = 0 }
 
 abbrev pub after_byte : Level → ℕ → Level
 after_byte l byte = record { node = l.node; byte = l.byte; next = byte + 1 }
+
+-- The levels before the one that the walk is on, and that one.
+abbrev pub front : List Level → List Level
+front ls = take (length ls - 1) ls
+
+abbrev pub IsTop : List Level → Level → Type 0
+IsTop ls l = ls ≡ front ls ++ l ∷ []
 
 -- What is left after a step. After a refusal it is empty.
 abbrev pub left_after : {E : Type 0} → Result (Option Node) E → List ℕ → KeyWalk → List Item

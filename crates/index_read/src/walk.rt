@@ -1,11 +1,12 @@
 // A walk over all nodes of an index, in the order of their keys.
-ghost use Rattle.std.specs.Prelude.{◌≡◌, ℕ, List, ◌+◌, ◌≤◌, ◌∷◌, ◌++◌, [], length, IfOk, OnOk};
-ghost use Rattle.std.specs.Prelude.{Some, None};
+ghost use Rattle.std.specs.Prelude.{◌≡◌, ℕ, List, ◌+◌, ◌≤◌, ◌<◌, ◌∷◌, ◌++◌, [], length, IfOk, OnOk};
+ghost use Rattle.std.specs.Prelude.{Some, None, MatchOption};
 ghost use Rattle.index_format.specs.Check.{index_fault};
 ghost use Rattle.index_nodes.specs.Fields.{link_of, IsNodeOf};
 ghost use Rattle.index_read.specs.Keys.{all_items, piece};
 ghost use Rattle.index_read.specs.Walks.{walk_key, left, left_after, IsWritten, IsWalking, GoesOn};
-ghost use Rattle.index_read.specs.Walks.{after_byte, level_of};
+ghost use Rattle.index_read.specs.Walks.{IsTop, after_byte, front, level_of};
+ghost use Rattle.index_read.specs.declared.walk.Level.{Level};
 
 use index_nodes::{Node, Nodes, Steps};
 use std::alloc::{AllocError, Global};
@@ -62,21 +63,28 @@ impl KeyWalk {
         Ok((walk, node))
     }
 
-    /// Goes to the child of a level for a byte.
-    fn enter(&mut self, level: &Level, byte: u8, node: &Node) -> Result<(), AllocError>
-        requires { byte ≤ 127 }
+    /// Returns the level that the walk is on, if there is one.
+    #[inline(always)]
+    fn top(&self) -> Option<Level>
+        ensures { MatchOption result (self.now.levels.items ≡ []) (IsTop self.now.levels.items) }
+    {
+        self.levels.last().copied()
+    }
+
+    /// Goes to the child of the level that the walk is on for a byte.
+    #[inline(always)]
+    fn enter(&mut self, byte: u8, node: &Node) -> Result<(), AllocError>
+        requires byte { byte ≤ 127 }
+        requires some { 0 < length self.old.levels.items }
         ensures key { OnOk result (self.new.key.items ≡ self.old.key.items) }
         ensures written { OnOk result (self.new.written ≡ self.old.written) }
-        ensures levels { OnOk result
-            (self.new.levels.items
-            ≡ (self.old.levels.items ++ after_byte level.now byte ∷ [])
+        ensures levels { OnOk result ((level : Level) → IsTop self.old.levels.items level
+            → self.new.levels.items
+            ≡ (front self.old.levels.items ++ after_byte level byte ∷ [])
             ++ level_of node.now (Some byte) ∷ []) }
     {
-        self.levels.push(Level {
-            node: level.node,
-            byte: level.byte,
-            next: byte + 1,
-        })?;
+        let top = self.levels.len() - 1;
+        self.levels[top].next = byte + 1;
         self.levels.push(Level {
             node: *node,
             byte: Some(byte),
@@ -102,6 +110,20 @@ impl KeyWalk {
         }
     }
 
+    /// Leaves the level that the walk is on.
+    fn go_up(&mut self, nodes: &Nodes, level: &Level)
+        requires top { IsTop self.old.levels.items level.now }
+        requires node { IsNodeOf nodes.now level.now.node }
+        requires written { IsWritten nodes.now self.old.key.items self.old.written
+            self.old.levels.items }
+        ensures levels { self.new.levels.items ≡ front self.old.levels.items }
+        ensures written { IsWritten nodes.now self.new.key.items self.new.written
+            self.new.levels.items }
+    {
+        self.levels.truncate(self.levels.len() - 1);
+        self.leave(nodes, level);
+    }
+
     /// Ends the walk, so that no node is left.
     pub(crate) fn stop(&mut self)
         ensures levels { self.new.levels.items ≡ [] }
@@ -124,13 +146,13 @@ impl KeyWalk {
         ensures cost { steps.new + length (left_after result nodes.now self.new)
             ≤ steps.old + length (left nodes.now self.old) }
     {
-        while let Some(level) = self.levels.pop() {
+        while let Some(level) = self.top() {
             let Some((byte, at)) = nodes.next_child(&level.node, level.next) else {
-                self.leave(nodes, &level);
+                self.go_up(nodes, &level);
                 continue;
             };
             let node = nodes.node(&at, steps);
-            self.enter(&level, byte, &node)?;
+            self.enter(byte, &node)?;
             return Ok(Some(node));
         }
         Ok(None)
