@@ -9,10 +9,10 @@ use Rattle.std.proofs.lemmas.Bool.{or_right, eqb-true, false_from_ne_true}
 use Rattle.std.proofs.lemmas.List.Folds.{list_any_more}
 use Rattle.std.proofs.lemmas.List.{append-nil, append_assoc, take_all}
 use Rattle.std.proofs.lemmas.List.Sums.{count_by-le-length}
-use Rattle.relation_order.specs.Sets.{has, goes, marked}
+use Rattle.relation_order.specs.Sets.{has, goes, marked, successors}
 use Rattle.relation_order.specs.Search.{with_item, with_items, Marks}
 use Rattle.relation_order.specs.Placing.{Closed}
-use Rattle.relation_order.proofs.Lists.{has-at, has-marked, seen-inside, goes-at}
+use Rattle.relation_order.proofs.Lists.{has-at, has-marked, seen-inside}
 use Rattle.relation_order.proofs.Saturation.{has-filter}
 use Rattle.relation_order.proofs.SpreadLaws.{spread-first, spread-further, spread-only}
 use Rattle.relation_order.proofs.Finding.{has-items, front-items}
@@ -142,13 +142,13 @@ started lists free request base found seen shut made marks long =
     is-sound y (inr m) = let w = and_parts _ _ m in go y w.0 w.1 (cases_Bool (has base y))
 
 pub followed : (lists : List (Vec ℕ)) (free : List Bool) (request base : List ℕ) (next x : ℕ)
-    (v : Vec ℕ) (found found' : List ℕ) (seen seen' : List Bool)
+    (items found found' : List ℕ) (seen seen' : List Bool)
     → Closed (goes lists) (marked free) base → Progress lists free request base next found seen
-    → next < length found → x ≡ get_or found next x → v ≡ get_or lists x v
-    → found' ≡ with_items found (filter (λ y. slice_index_or free y false) v.items)
+    → next < length found → x ≡ get_or found next x → items ≡ successors lists x
+    → found' ≡ with_items found (filter (λ y. slice_index_or free y false) items)
     → Marks found' seen' → length seen' ≡ length lists
     → Progress lists free request base (next + 1) found' seen'
-followed lists free request base next x v found found' seen seen' shut p l x-is v-is made marks long
+followed lists free request base next x items found found' seen seen' shut p l x-is is made marks long
     =
     record {
       long = long;
@@ -156,23 +156,23 @@ followed lists free request base next x v found found' seen seen' shut p l x-is 
       within
           = omega (
             arith,
-            (front-items found (filter (λ y. slice_index_or free y false) v.items) next
+            (front-items found (filter (λ y. slice_index_or free y false) items) next
                 (omega arith)).1,
             ap length made,
           );
       more
           = subst (More base) (sym made)
-          (more-items base found (filter (λ y. slice_index_or free y false) v.items) p.more);
+          (more-items base found (filter (λ y. slice_index_or free y false) items) p.more);
       sound = λ y h. is-sound y (or_cases (has found y) _ (sym (found-is y) ∙ h));
       first = λ y m e. old y (p.first y m e);
       closed = closed';
     }
   where
-    found-is : (y : ℕ) → has found' y ≡ (has found y || (has (marked free) y && has v.items y))
+    found-is : (y : ℕ) → has found' y ≡ (has found y || (has (marked free) y && has items y))
     found-is y
         = ap (λ xs. has xs y) made
-        ∙ has-items found (filter (λ y. slice_index_or free y false) v.items) y
-        ∙ ap (λ b. has found y || b) (free-of free v.items y)
+        ∙ has-items found (filter (λ y. slice_index_or free y false) items) y
+        ∙ ap (λ b. has found y || b) (free-of free items y)
 
     old : (y : ℕ) → has found y ≡ true → has found' y ≡ true
     old y h = found-is y ∙ or_left _ _ h
@@ -180,8 +180,8 @@ followed lists free request base next x v found found' seen seen' shut p l x-is 
     has-x : has found x ≡ true
     has-x = has-at found next x l x-is
 
-    low : x < length lists
-    low = inside p x has-x
+    goes-x : (y : ℕ) → goes lists x y ≡ has items y
+    goes-x y = ap (λ xs. has xs y) (sym is)
 
     go : (y : ℕ) → has (marked free) y ≡ true → goes lists x y ≡ true
         → (has base y ≡ true) ⊎ (has base y ≡ false)
@@ -194,12 +194,12 @@ followed lists free request base next x v found found' seen seen' shut p l x-is 
         (spread-further (goes lists) (undone (marked free) base) (has request) x y n e
         (is-undone (goes lists) (marked free) base y f m))
 
-    is-sound : (y : ℕ) → (has found y ≡ true) ⊎ ((has (marked free) y && has v.items y) ≡ true)
+    is-sound : (y : ℕ) → (has found y ≡ true) ⊎ ((has (marked free) y && has items y) ≡ true)
         → (has base y || has (members (goes lists) (marked free) base request) y) ≡ true
     is-sound y (inl h) = p.sound y h
     is-sound y (inr m)
         = let w
-        = and_parts _ _ m in go y w.0 (goes-at lists x y v low v-is ∙ w.1) (cases_Bool (has base y))
+        = and_parts _ _ m in go y w.0 (goes-x y ∙ w.1) (cases_Bool (has base y))
         (or_cases _ _ (p.sound x has-x))
 
     closed' : (z y : ℕ) → has (take (next + 1) found') z ≡ true → has (marked free) y ≡ true
@@ -207,7 +207,7 @@ followed lists free request base next x v found found' seen seen' shut p l x-is 
     closed' z y h n e =
         let front : take (next + 1) found' ≡ take (next + 1) found
         = ap (take (next + 1)) made
-        ∙ (front-items found (filter (λ y. slice_index_or free y false) v.items) (next + 1)
+        ∙ (front-items found (filter (λ y. slice_index_or free y false) items) (next + 1)
         (omega arith)).0 in
         let h' : (has (take next found) z || eqb z (get_or found next x)) ≡ true
         = sym (list_any_more (eqb z) found next x l) ∙ ap (λ xs. has xs z) (sym front) ∙ h in
@@ -216,7 +216,7 @@ followed lists free request base next x v found found' seen seen' shut p l x-is 
           | inr s ↦ found-is y
               ∙ or_right _ _
               (and_from _ _ n
-              (sym (goes-at lists x y v low v-is)
+              (sym (goes-x y)
               ∙ ap (λ w. goes lists w y)
               (x-is ∙ sym (eqb-true z (get_or found next x) s))
               ∙ e))

@@ -32,40 +32,40 @@ requested-front (r ∷ rs) (suc n) y h =
 
 module _ (count : ℕ) (before : ℕ → List ℕ) (set : List ℕ) (after : ℕ → List ℕ)
     (requests : List (List ℕ)) (p : Planned) (k : IsPlanned count before set after requests p) where
-  alike : Alike (planned (among before) set after requests) (among before) (goes p.before.items)
+  alike : Alike (planned (among before) set after requests) (among before) (goes p.before)
   alike x h = ap (λ xs. has xs) (sym (k.comes_before x h))
 
   after-alike : (x : ℕ) → has (planned (among before) set after requests) x ≡ true
-      → after x ≡ successors p.after.items x
+      → after x ≡ successors p.after x
   after-alike x h = sym (k.wanted_after x h)
 
   own : planned (among before) set after requests
-      ≡ planned (goes p.before.items) set (successors p.after.items) requests
+      ≡ planned (goes p.before) set (successors p.after) requests
   own
-      = planned-same (among before) (goes p.before.items) set after (successors p.after.items)
+      = planned-same (among before) (goes p.before) set after (successors p.after)
       requests alike after-alike
 
   pub marks-own : marked p.marks.items
-      ≡ planned (goes p.before.items) set (successors p.after.items) requests
+      ≡ planned (goes p.before) set (successors p.after) requests
   marks-own = k.marks ∙ own
 
-  marked-alike : Alike (marked p.marks.items) (among before) (goes p.before.items)
+  marked-alike : Alike (marked p.marks.items) (among before) (goes p.before)
   marked-alike x h = alike x (ap (λ xs. has xs x) (sym k.marks) ∙ h)
 
   pub cycle-own : cycle (among before) (planned (among before) set after requests)
-      ≡ cycle (goes p.before.items) (marked p.marks.items)
+      ≡ cycle (goes p.before) (marked p.marks.items)
   cycle-own
       = ap (cycle (among before)) (sym k.marks)
-      ∙ cycle-same (among before) (goes p.before.items) (marked p.marks.items) marked-alike
+      ∙ cycle-same (among before) (goes p.before) (marked p.marks.items) marked-alike
 
-  pub plan-own : (g : GroupedOrder) → cycle (goes p.before.items) (marked p.marks.items) ≡ []
-      → IsPlan (goes p.before.items) set (successors p.after.items) requests g
+  pub plan-own : (g : GroupedOrder) → cycle (goes p.before) (marked p.marks.items) ≡ []
+      → IsPlan (goes p.before) set (successors p.after) requests g
       → IsPlan (among before) set after requests g
   plan-own g none is =
       let order : g.order.items ≡ plan (among before) set after requests
       = is.order
-      ∙ sym (plan-same (among before) (goes p.before.items) set after
-      (successors p.after.items) requests alike after-alike) in
+      ∙ sym (plan-same (among before) (goes p.before) set after
+      (successors p.after) requests alike after-alike) in
       record {
         order = order;
         queue
@@ -79,24 +79,24 @@ module _ (count : ℕ) (before : ℕ → List ℕ) (set : List ℕ) (after : ℕ
         ends_long = is.ends_long;
         ends = λ i l.
             is.ends i l
-            ∙ ap length (sym (groups-same (among before) (goes p.before.items) set after
-            (successors p.after.items) requests alike after-alike [] (take (suc i) requests)
+            ∙ ap length (sym (groups-same (among before) (goes p.before) set after
+            (successors p.after) requests alike after-alike [] (take (suc i) requests)
             (λ y m t. spread-first (needs (among before) after) set (requested requests) y
             (requested-front requests (suc i) y t) m)));
       }
 
   pub closes-own : (found : List ℕ) → Rising (marked p.marks.items)
-      → found ≡ cycle (goes p.before.items) (marked p.marks.items)
-      → Closes (goes p.before.items) found → Closes (among before) found
+      → found ≡ cycle (goes p.before) (marked p.marks.items)
+      → Closes (goes p.before) found → Closes (among before) found
   closes-own found up is closes =
       subst (Closes (among before))
       (sym (is
-      ∙ sym (cycle-same (among before) (goes p.before.items) (marked p.marks.items)
+      ∙ sym (cycle-same (among before) (goes p.before) (marked p.marks.items)
       marked-alike)))
       (cycle-is (among before) (marked p.marks.items) up
-      (λ long. subst (Closes (goes p.before.items))
+      (λ long. subst (Closes (goes p.before))
       (is
-      ∙ order-empty (goes p.before.items) (marked p.marks.items) up
-      (ap length (sym (least-same (among before) (goes p.before.items)
+      ∙ order-empty (goes p.before) (marked p.marks.items) up
+      (ap length (sym (least-same (among before) (goes p.before)
       (marked p.marks.items) marked-alike))
       ∙ long)) closes))

@@ -11,3 +11,4 @@ pub mod Lists
 pub mod QueueLaws
 pub mod Requests
 pub mod Same
+pub mod SlotLaws

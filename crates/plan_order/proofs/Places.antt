@@ -17,7 +17,7 @@ use Rattle.std.proofs.lemmas.List.FromFn.{length-range_with_len}
 use Rattle.std.specs.Global.{Vec}
 use Rattle.relation_order.specs.Sets.{Relation, has, below, times, successors, goes}
 use Rattle.relation_order.specs.Least.{is_ready, with_next, least_order}
-use Rattle.relation_order.proofs.Lists.{range-has, has-at, all-has, goes-at}
+use Rattle.relation_order.proofs.Lists.{range-has, has-at, all-has}
 use Rattle.relation_order.proofs.PlaceSteps.{has-insert_key, all-within}
 use Rattle.std.specs.BTreeSet.{insert_key}
 use Rattle.std.specs.Ordering.{match_ordering}
@@ -297,16 +297,16 @@ GoFirst r members n lists =
     → goes lists i j ≡ r (get_or members i 0) (get_or members j 0)
 
 pub go-more : (lists : List (Vec ℕ)) (members : List ℕ) (n : ℕ) (inner : List (Vec ℕ))
-    (v target : Vec ℕ)
-    → length inner ≡ n → n < length members → get_or members n 0 < length lists
-    → target ≡ get_or lists (get_or members n 0) target → PlacesOf members target.items v.items
+    (v : Vec ℕ) (target : List ℕ)
+    → length inner ≡ n → n < length members → target ≡ successors lists (get_or members n 0)
+    → PlacesOf members target v.items
     → GoFirst (goes lists) members n inner → GoFirst (goes lists) members (n + 1) (inner ++ v ∷ [])
-go-more lists members n inner v target long l low is same old i j k m =
+go-more lists members n inner v target long l is same old i j k m =
     elim (cases_lt i n) [
       | inl less ↦ ap (λ xs. has xs j) (successors-more inner v i (omega arith)) ∙ old i j less m
       | inr more ↦
           let e : i ≡ n = omega arith in
           ap (λ xs. has xs j) (successors-last inner v i (omega arith)) ∙ same j m
-          ∙ sym (goes-at lists (get_or members n 0) (get_or members j 0) target low is)
+          ∙ ap (λ xs. has xs (get_or members j 0)) is
           ∙ ap (λ x. goes lists (get_or members x 0) (get_or members j 0)) (sym e)
     ]

@@ -67,13 +67,6 @@ module _ (r : Relation) (set : List ℕ) (post : ℕ → List ℕ) (requests : L
   unfolding plan
   plan-ended k l short = sym (after-same k (length set) (omega (arith, after-length k)) short)
 
--- the items of the list at a place
-pub successors-is : (lists : List (Vec ℕ)) (x : ℕ) (v : Vec ℕ) → x < length lists
-    → v ≡ get_or lists x v → successors lists x ≡ v.items
-successors-is [] x v l e = absurd (omega arith)
-successors-is (w ∷ ws) zero v l e = ap (λ (u : Vec ℕ). u.items) (sym e)
-successors-is (w ∷ ws) (suc x) v l e = successors-is ws x v (omega arith) e
-
 pub successors-past : (lists : List (Vec ℕ)) (x : ℕ) → length lists ≤ x → successors lists x ≡ []
 successors-past [] x l = refl
 successors-past (w ∷ ws) zero l = absurd (omega arith)
@@ -86,11 +79,11 @@ post_at-here post (x ∷ xs) zero l = refl
 post_at-here post (x ∷ xs) (suc k) l = post_at-here post xs k (omega arith)
 
 -- the post-softdeps of the module at a place of an order, in the code's terms
-pub posts-here : (post : List (Vec ℕ)) (order : List ℕ) (next x : ℕ) (v : Vec ℕ) (items : List ℕ)
-    → next < length order → x ≡ get_or order next x → x < length post → v ≡ get_or post x v
-    → items ≡ v.items → items ≡ post_at (successors post) order next
-posts-here post order next x v items l x-is low v-is same =
-    same ∙ sym (successors-is post x v low v-is)
+pub posts-here : (post : List (Vec ℕ)) (order : List ℕ) (next x : ℕ) (items : List ℕ)
+    → next < length order → x ≡ get_or order next x → items ≡ successors post x
+    → items ≡ post_at (successors post) order next
+posts-here post order next x items l x-is same =
+    same
     ∙ ap (successors post) (x-is ∙ get_or_default order next x 0 l)
     ∙ sym (post_at-here (successors post) order next l)
 

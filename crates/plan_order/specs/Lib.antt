@@ -6,3 +6,4 @@ pub mod NoCycle
 pub mod Places
 pub mod Plan
 pub mod Queue
+pub mod Slots

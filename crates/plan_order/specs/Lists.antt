@@ -20,14 +20,14 @@ pub record IsPlanned (count : ℕ) (before : ℕ → List ℕ) (set : List ℕ) 
     (requests : List (List ℕ)) (p : Planned) : Type 0 where
   pub marks : marked p.marks.items ≡ planned (among before) set after requests
   pub comes_before : (x : ℕ) → has (planned (among before) set after requests) x ≡ true
-      → successors p.before.items x ≡ before x
+      → successors p.before x ≡ before x
   pub wanted_after : (x : ℕ) → has (planned (among before) set after requests) x ≡ true
-      → successors p.after.items x ≡ after x
+      → successors p.after x ≡ after x
   pub marks_long : length p.marks.items ≡ count
-  pub before_long : length p.before.items ≡ count
-  pub after_long : length p.after.items ≡ count
-  pub before_inside : Inside count p.before.items
-  pub after_inside : Inside count p.after.items
+  pub before_long : length p.before ≡ count
+  pub after_long : length p.after ≡ count
+  pub before_inside : Inside count p.before
+  pub after_inside : Inside count p.after
 
 -- There are needs such that this is what is planned.
 abbrev pub AreKnown : ℕ → List ℕ → List (List ℕ) → Planned → Type 0

@@ -6,6 +6,7 @@ ghost use Rattle.relation_order.specs.Search.{Inside};
 ghost use Rattle.plan_order.specs.Finding.{Rises};
 ghost use Rattle.plan_order.specs.Places.{IsPlaceIn, GoLike};
 
+use crate::need_lists::NeedLists;
 use relation_order::{all_members, least};
 use std::alloc::{AllocError, Global};
 use std::collections::BTreeSet;
@@ -14,7 +15,7 @@ use std::collections::BTreeSet;
 /// goes to.
 pub(crate) fn order_among(
     alloc: Global,
-    lists: &[Vec<usize>],
+    lists: &NeedLists,
     members: &[usize],
 ) -> Result<Vec<usize>, AllocError>
     requires rises { Rises members.now }
@@ -39,7 +40,7 @@ pub(crate) fn rising(alloc: Global, items: &[usize]) -> Result<Vec<usize>, Alloc
 /// Finds for each member the places, among the members, of the members that it goes to.
 fn lists_among(
     alloc: Global,
-    lists: &[Vec<usize>],
+    lists: &NeedLists,
     members: &[usize],
 ) -> Result<Vec<Vec<usize>>, AllocError>
     requires rises { Rises members.now }
@@ -50,7 +51,7 @@ fn lists_among(
 {
     let mut inner = Vec::new(alloc);
     for member in members {
-        inner.push(places_of(alloc, members, &lists[*member])?)?;
+        inner.push(places_of(alloc, members, lists.get(*member))?)?;
     }
     Ok(inner)
 }

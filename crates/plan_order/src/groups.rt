@@ -12,6 +12,7 @@ ghost use Rattle.plan_order.specs.Finding.{FoundMore};
 ghost use Rattle.plan_order.specs.Groups.{Whole};
 
 use crate::group::{order_among, rising};
+use crate::need_lists::NeedLists;
 use relation_order::{find_all, unmarked};
 use std::alloc::{AllocError, Global};
 
@@ -27,7 +28,7 @@ pub(crate) struct Groups {
 fn find_group(
     seen: &mut Vec<bool>,
     found: &mut Vec<usize>,
-    lists: &[Vec<usize>],
+    lists: &NeedLists,
     free: &[bool],
     request: &[usize],
 ) -> Result<(), AllocError>
@@ -46,7 +47,7 @@ fn find_group(
     find_all(seen, found, free, request)?;
     while next < found.len() {
         let item = found[next];
-        find_all(seen, found, free, &lists[item])?;
+        find_all(seen, found, free, lists.get(item))?;
         next += 1;
     }
     Ok(())
@@ -71,7 +72,7 @@ impl Groups {
     fn add(
         &mut self,
         alloc: Global,
-        lists: &[Vec<usize>],
+        lists: &NeedLists,
         free: &[bool],
         request: &[usize],
     ) -> Result<(), AllocError>
@@ -104,7 +105,7 @@ impl Groups {
     pub(crate) fn add_all(
         &mut self,
         alloc: Global,
-        lists: &[Vec<usize>],
+        lists: &NeedLists,
         free: &[bool],
         requests: &[Vec<usize>],
     ) -> Result<Vec<usize>, AllocError>
@@ -138,7 +139,7 @@ impl Groups {
     pub(crate) fn add_each(
         &mut self,
         alloc: Global,
-        lists: &[Vec<usize>],
+        lists: &NeedLists,
         free: &[bool],
         modules: &[usize],
     ) -> Result<(), AllocError>

@@ -7,14 +7,16 @@
 //! follow, in the plan's order. The definitions are about any relation, and compute.
 //!
 //! Only a planned module is asked for its needs. A plan takes time in proportion to the planned
-//! modules and their needs, apart from sorting each request's modules and one mark for each module
-//! there is. Nothing recurses. The crate builds on `relation_order`.
+//! modules and their needs, apart from sorting each request's modules and a few bytes for each
+//! module there is. Nothing recurses. The crate builds on `relation_order`.
 #![tactic(auto)]
 
 mod group;
 mod groups;
+mod need_lists;
 mod needs;
 mod plan;
 
+pub use need_lists::NeedLists;
 pub use needs::{Needed, Needs, Planned, find_planned};
 pub use plan::{GroupedOrder, PlanOrCycle, plan_or_cycle};

@@ -5,6 +5,7 @@ ghost use Rattle.relation_order.specs.Search.{Inside, Marks};
 ghost use Rattle.plan_order.specs.Finding.{Asked};
 ghost use Rattle.plan_order.specs.Lists.{items_of, IsPlanned};
 
+use crate::need_lists::NeedLists;
 use relation_order::{find_all, unmarked};
 use std::alloc::{AllocError, Global};
 
@@ -43,9 +44,9 @@ pub struct Planned {
     /// A mark for each module that is planned.
     pub marks: Vec<bool>,
     /// For each planned module, the modules that come before it.
-    pub before: Vec<Vec<usize>>,
+    pub before: NeedLists,
     /// For each planned module, the modules that are to come after it.
-    pub after: Vec<Vec<usize>>,
+    pub after: NeedLists,
 }
 
 /// Finds what is planned for some requests: the least set that has the requested modules, and with
@@ -64,8 +65,8 @@ pub fn find_planned<N: Needs>(
         (items_of requests.now)) }
 {
     let mut marks = unmarked(alloc, free.len())?;
-    let mut before = empty_lists(alloc, free.len())?;
-    let mut after = empty_lists(alloc, free.len())?;
+    let mut before = NeedLists::new(alloc, free.len())?;
+    let mut after = NeedLists::new(alloc, free.len())?;
     let mut found = Vec::new(alloc);
     find_requested(&mut marks, &mut found, free, requests)?;
     let mut next = 0;
@@ -74,8 +75,8 @@ pub fn find_planned<N: Needs>(
         let needed = needs.needed(alloc, place)?;
         find_all(&mut marks, &mut found, free, &needed.before)?;
         find_all(&mut marks, &mut found, free, &needed.after)?;
-        before[place] = needed.before;
-        after[place] = needed.after;
+        before.put(place, needed.before)?;
+        after.put(place, needed.after)?;
         next += 1;
     }
     Ok(Planned {
@@ -104,16 +105,4 @@ fn find_requested(
         find_all(marks, found, free, request)?;
     }
     Ok(())
-}
-
-/// Makes a number of empty lists.
-fn empty_lists(alloc: Global, count: usize) -> Result<Vec<Vec<usize>>, AllocError>
-    ensures long { IfOk result (λ lists. length lists.items ≡ count) }
-    ensures inside { IfOk result (λ lists. Inside count lists.items) }
-{
-    let mut lists = Vec::with_capacity(alloc, count)?;
-    for _ in 0..count {
-        lists.push(Vec::new(alloc))?;
-    }
-    Ok(lists)
 }

@@ -10,6 +10,7 @@ ghost use Rattle.plan_order.specs.Answer.{IsPlan, IsAnswer};
 
 use crate::group::order_among;
 use crate::groups::Groups;
+use crate::need_lists::NeedLists;
 use crate::needs::Planned;
 use relation_order::{OrderOrCycle, marked, named_cycle};
 use std::alloc::{AllocError, Global};
@@ -62,7 +63,7 @@ pub fn plan_or_cycle(
 /// proportion to the members and their lists, since most plans are of few modules.
 fn order_or_cycle(
     alloc: Global,
-    lists: &[Vec<usize>],
+    lists: &NeedLists,
     marks: &[bool],
 ) -> Result<OrderOrCycle, AllocError>
     requires long { length marks.now ≡ length lists.now }
@@ -74,14 +75,15 @@ fn order_or_cycle(
     if order.len() == members.len() {
         return Ok(OrderOrCycle::Order(order));
     }
-    Ok(OrderOrCycle::Cycle(named_cycle(alloc, lists, marks)?))
+    let copies = lists.copies(alloc)?;
+    Ok(OrderOrCycle::Cycle(named_cycle(alloc, &copies, marks)?))
 }
 
 /// Makes the plan, if nothing planned comes before itself.
 fn plan_without_cycle(
     alloc: Global,
-    before: &[Vec<usize>],
-    post: &[Vec<usize>],
+    before: &NeedLists,
+    post: &NeedLists,
     free: &[bool],
     requests: &[Vec<usize>],
 ) -> Result<GroupedOrder, AllocError>
@@ -103,7 +105,7 @@ fn plan_without_cycle(
     let mut next = 0;
     while next < groups.order.len() {
         let place = groups.order[next];
-        groups.add_each(alloc, before, free, &post[place])?;
+        groups.add_each(alloc, before, free, post.get(place))?;
         next += 1;
     }
     let Groups { order, .. } = groups;

@@ -1,8 +1,8 @@
-use Rattle.std.proofs.Common.{◌≡◌, ◌<◌, ◌≤◌, ◌+◌, length, arith, refl, ap, sym, ◌∙◌, subst}
+use Rattle.std.proofs.Common.{◌≡◌, ◌<◌, ◌≤◌, ◌+◌, length, arith, refl, ap, sym, ◌∙◌, subst, take}
 use Rattle.std.specs.Prelude.{All, filter, slice_index_or, false}
 use Rattle.std.proofs.lemmas.List.{length-set}
 use Rattle.relation_order.specs.Search.{with_items, Inside}
-use Rattle.plan_order.proofs.Planning.{started, followed, ended, inside-at, follows-none}
+use Rattle.plan_order.proofs.Planning.{Follows, started, followed, ended, inside-at, follows-none}
 use Rattle.plan_order.proofs.Planning.{follows-more, front-stays, inside-set, planned-follows}
 use Rattle.plan_order.proofs.needs.find_planned.Goals as goal
 
@@ -16,10 +16,10 @@ loop-next-init g c =
           c.in_ok-find_requested.ensures.asked (omega arith);
       before
           = follows-none (g.N.Needs.before c.args.needs.now) c.find_requested.new.found.items
-          c.in_ok-before.before.items;
+          c.in_ok-before.before;
       after
           = follows-none (g.N.Needs.after c.args.needs.now) c.find_requested.new.found.items
-          c.in_ok-after.after.items;
+          c.in_ok-after.after;
       before_long = c.in_ok-before.ensures.long;
       after_long = c.in_ok-after.ensures.long;
       before_inside = c.in_ok-before.ensures.inside;
@@ -33,19 +33,19 @@ needed-requires g c =
     (omega arith) c.index-place.ensures in
     omega (arith, l, c.requires.free)
 
-pub index_mut-requires : goal.index_mut-requires
-index_mut-requires g c =
+pub put-requires : goal.put-requires
+put-requires g c =
     let l
     = inside-at c.loop-next.invariant.progress c.loop-next.next c.index-place.result.now
     (omega arith) c.index-place.ensures in
-    omega (arith, l, c.loop-next.invariant.before_long, c.loop-next.before.ok.0)
+    omega (arith, l, c.loop-next.invariant.before_long)
 
-pub index_mut-requires-in-loop-next : goal.index_mut-requires-in-loop-next
-index_mut-requires-in-loop-next g c =
+pub put-requires-in-loop-next : goal.put-requires-in-loop-next
+put-requires-in-loop-next g c =
     let l
     = inside-at c.loop-next.invariant.progress c.loop-next.next c.index-place.result.now
     (omega arith) c.index-place.ensures in
-    omega (arith, l, c.loop-next.invariant.after_long, c.loop-next.after.ok.0)
+    omega (arith, l, c.loop-next.invariant.after_long)
 
 pub loop-next-preserved : goal.loop-next-preserved
 loop-next-preserved g c =
@@ -82,27 +82,39 @@ loop-next-preserved g c =
           (c.in_ok-find_all-2.ensures.marks (c.in_ok-find_all.ensures.marks p.marks))
           (c.in_ok-find_all-2.ensures.long ∙ c.in_ok-find_all.ensures.long ∙ p.long);
       before
-          = follows-more (g.N.Needs.before c.args.needs.now) o.found.items
-          c.find_all-in-loop-next.new.found.items o.next place o.before.items needed.before
+          = subst (Follows (g.N.Needs.before c.args.needs.now)
+          (take (o.next + 1) c.find_all-in-loop-next.new.found.items))
+          (sym c.in_ok-put.ensures)
+          (follows-more (g.N.Needs.before c.args.needs.now) o.found.items
+          c.find_all-in-loop-next.new.found.items o.next place o.before needed.before
           o.invariant.before front (omega arith) c.index-place.ensures
-          (omega (arith, low, o.invariant.before_long)) c.in_ok-needed.ensures.before;
+          (omega (arith, low, o.invariant.before_long)) c.in_ok-needed.ensures.before);
       after
-          = follows-more (g.N.Needs.after c.args.needs.now) o.found.items
-          c.find_all-in-loop-next.new.found.items o.next place o.after.items needed.after
+          = subst (Follows (g.N.Needs.after c.args.needs.now)
+          (take (o.next + 1) c.find_all-in-loop-next.new.found.items))
+          (sym c.in_ok-put-2.ensures)
+          (follows-more (g.N.Needs.after c.args.needs.now) o.found.items
+          c.find_all-in-loop-next.new.found.items o.next place o.after needed.after
           o.invariant.after front (omega arith) c.index-place.ensures
-          (omega (arith, low, o.invariant.after_long)) c.in_ok-needed.ensures.after;
-      before_long = length-set o.before.items place needed.before ∙ o.invariant.before_long;
-      after_long = length-set o.after.items place needed.after ∙ o.invariant.after_long;
+          (omega (arith, low, o.invariant.after_long)) c.in_ok-needed.ensures.after);
+      before_long
+          = ap length c.in_ok-put.ensures ∙ length-set o.before place needed.before
+          ∙ o.invariant.before_long;
+      after_long
+          = ap length c.in_ok-put-2.ensures ∙ length-set o.after place needed.after
+          ∙ o.invariant.after_long;
       before_inside
-          = inside-set (length c.args.free.now) o.before.items place needed.before
+          = subst (Inside (length c.args.free.now)) (sym c.in_ok-put.ensures)
+          (inside-set (length c.args.free.now) o.before place needed.before
           o.invariant.before_inside
           (subst (λ n. All (λ y. y < n) needed.before.items) (sym c.requires.free)
-          c.in_ok-needed.ensures.before_inside);
+          c.in_ok-needed.ensures.before_inside));
       after_inside
-          = inside-set (length c.args.free.now) o.after.items place needed.after
+          = subst (Inside (length c.args.free.now)) (sym c.in_ok-put-2.ensures)
+          (inside-set (length c.args.free.now) o.after place needed.after
           o.invariant.after_inside
           (subst (λ n. All (λ y. y < n) needed.after.items) (sym c.requires.free)
-          c.in_ok-needed.ensures.after_inside);
+          c.in_ok-needed.ensures.after_inside));
     }
 
 pub returns : goal.returns
@@ -121,13 +133,13 @@ returns g c =
           o.marks.items p l refl;
       comes_before
           = planned-follows (length free) free before after before c.args.requests.now o.next
-          o.found.items o.marks.items o.before.items p l o.invariant.before;
+          o.found.items o.marks.items o.before p l o.invariant.before;
       wanted_after
           = planned-follows (length free) free before after after c.args.requests.now o.next
-          o.found.items o.marks.items o.after.items p l o.invariant.after;
+          o.found.items o.marks.items o.after p l o.invariant.after;
       marks_long = p.long ∙ n;
       before_long = o.invariant.before_long ∙ n;
       after_long = o.invariant.after_long ∙ n;
-      before_inside = subst (λ k. Inside k c.loop-next.before.items) n o.invariant.before_inside;
-      after_inside = subst (λ k. Inside k c.loop-next.after.items) n o.invariant.after_inside;
+      before_inside = subst (λ k. Inside k c.loop-next.before) n o.invariant.before_inside;
+      after_inside = subst (λ k. Inside k c.loop-next.after) n o.invariant.after_inside;
     }

@@ -8,12 +8,12 @@ invariant-loop-next g l =
     record {
       progress : Progress (length l.free) l.free (g.N.Needs.before l.needs)
           (g.N.Needs.after l.needs) l.requests l.next l.found.items l.marks.items;
-      before : Follows (g.N.Needs.before l.needs) (take l.next l.found.items) l.before.items;
-      after : Follows (g.N.Needs.after l.needs) (take l.next l.found.items) l.after.items;
-      before_long : length l.before.items ≡ length l.free;
-      after_long : length l.after.items ≡ length l.free;
-      before_inside : Inside (length l.free) l.before.items;
-      after_inside : Inside (length l.free) l.after.items;
+      before : Follows (g.N.Needs.before l.needs) (take l.next l.found.items) l.before;
+      after : Follows (g.N.Needs.after l.needs) (take l.next l.found.items) l.after;
+      before_long : length l.before ≡ length l.free;
+      after_long : length l.after ≡ length l.free;
+      before_inside : Inside (length l.free) l.before;
+      after_inside : Inside (length l.free) l.after;
     }
 
 abbrev pub decreases-loop-next : goal.decreases-loop-next

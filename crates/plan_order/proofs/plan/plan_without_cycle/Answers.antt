@@ -1,4 +1,4 @@
-use Rattle.std.proofs.Common.{◌≡◌, ◌<◌, ◌+◌, suc, [], length, take, arith, rules, ap, sym, ◌∙◌}
+use Rattle.std.proofs.Common.{◌≡◌, ◌<◌, ◌+◌, suc, [], length, take, arith, ap, sym, ◌∙◌}
 use Rattle.std.proofs.Common.{subst, ℕ}
 use Rattle.std.specs.Prelude.{All, nat_eq}
 use Rattle.std.specs.List.{IsDistinct}
@@ -11,16 +11,19 @@ use Rattle.plan_order.specs.Plan.{plan, planned, plan_after, with_groups, single
 use Rattle.plan_order.specs.Plan.{requested}
 use Rattle.relation_order.specs.Sets.{successors}
 use Rattle.plan_order.specs.Lists.{items_of}
+use Rattle.plan_order.specs.Groups.{Whole}
 use Rattle.plan_order.proofs.QueueLaws.{queue-plans}
 use Rattle.plan_order.proofs.PlanLaws.{plan-distinct, plan-after}
 use Rattle.plan_order.proofs.Complete.{plan-is_planned, planned-before, planned-asked, planned-post}
 use Rattle.plan_order.proofs.Complete.{after-within, groups-more}
 use Rattle.plan_order.proofs.Requests.{order-low, posts-here, after-length, plan-ended}
+use Rattle.plan_order.proofs.SlotLaws.{successors-inside}
 use Rattle.plan_order.proofs.plan.plan_without_cycle.Goals as goal
 
 pub add_all-requires-clause-whole : goal.add_all-requires-clause-whole
 add_all-requires-clause-whole c =
-    c.in_ok-groups.ensures.whole c.args.before.now (marked c.args.free.now)
+    subst (λ n. Whole (goes c.args.before.now) (marked c.args.free.now) n c.in_ok-groups.groups)
+    c.len.ensures (c.in_ok-groups.ensures.whole c.args.before.now (marked c.args.free.now))
 
 pub add_all-requires-clause-cycle : goal.add_all-requires-clause-cycle
 add_all-requires-clause-cycle c =
@@ -37,22 +40,13 @@ add_all-requires-clause-cycle c =
       none = c.requires.cycle;
     }
 
-pub bounds-post-place : goal.bounds-post-place
-bounds-post-place c =
+pub get-requires : goal.get-requires
+get-requires c =
     let l : c.index-place.result.now < length c.args.free.now
     = order-low c.args.free.now c.loop-next.groups.order.items c.loop-next.next
     c.index-place.result.now c.loop-next.invariant.whole.within (omega arith)
     c.index-place.ensures in
     omega arith
-
-pub offset_bounds-post-place : goal.offset_bounds-post-place
-offset_bounds-post-place c =
-    let l : c.index-place.result.now < length c.args.free.now
-    = order-low c.args.free.now c.loop-next.groups.order.items c.loop-next.next
-    c.index-place.result.now c.loop-next.invariant.whole.within (omega arith)
-    c.index-place.ensures in
-    let k : c.index-place.result.now < length c.args.post.now = omega arith in
-    search rules
 
 pub add_each-requires-clause-modules : goal.add_each-requires-clause-modules
 add_each-requires-clause-modules c =
@@ -61,22 +55,15 @@ add_each-requires-clause-modules c =
     c.index-place.result.now c.loop-next.invariant.whole.within (omega arith)
     c.index-place.ensures in
     let k : c.index-place.result.now < length c.args.post.now = omega arith in
-    rw c.deref.ensures.value
-    (subst (λ (u : Vec ℕ). All (λ y. y < length c.args.before.now) u.items)
-    (sym c.index-post-place.is)
-    (c.requires.post c.index-place.result.now c.index-post-place.result k))
+    subst (All (λ y. y < length c.args.before.now)) (sym c.get.ensures)
+    (successors-inside (length c.args.before.now) c.args.post.now c.index-place.result.now
+    c.requires.post k)
 
 pub add_each-requires-clause-cycle : goal.add_each-requires-clause-cycle
 add_each-requires-clause-cycle c =
-    let l : c.index-place.result.now < length c.args.free.now
-    = order-low c.args.free.now c.loop-next.groups.order.items c.loop-next.next
-    c.index-place.result.now c.loop-next.invariant.whole.within (omega arith)
-    c.index-place.ensures in
-    let k : c.index-place.result.now < length c.args.post.now = omega arith in
     let e
     = posts-here c.args.post.now c.loop-next.groups.order.items c.loop-next.next
-    c.index-place.result.now c.index-post-place.result c.deref.result.now (omega arith)
-    c.index-place.ensures k c.index-post-place.is c.deref.ensures.value in
+    c.index-place.result.now c.get.result.now (omega arith) c.index-place.ensures c.get.ensures in
     let o = c.loop-next.invariant.order in
     record {
       part
@@ -110,19 +97,13 @@ loop-next-smaller c =
 
 pub loop-next-preserved : goal.loop-next-preserved
 loop-next-preserved c =
-    let l : c.index-place.result.now < length c.args.free.now
-    = order-low c.args.free.now c.loop-next.groups.order.items c.loop-next.next
-    c.index-place.result.now c.loop-next.invariant.whole.within (omega arith)
-    c.index-place.ensures in
-    let k : c.index-place.result.now < length c.args.post.now = omega arith in
     let e
     = posts-here c.args.post.now c.loop-next.groups.order.items c.loop-next.next
-    c.index-place.result.now c.index-post-place.result c.deref.result.now (omega arith)
-    c.index-place.ensures k c.index-post-place.is c.deref.ensures.value in
+    c.index-place.result.now c.get.result.now (omega arith) c.index-place.ensures c.get.ensures in
     let s : suc c.loop-next.next ≡ c.loop-next.next + 1 = omega arith in
     let w
     = groups-more (goes c.args.before.now) (marked c.args.free.now)
-    c.loop-next.groups.order.items (singles c.deref.result.now) in
+    c.loop-next.groups.order.items (singles c.get.result.now) in
     record {
       order =
           c.in_ok-add_each.ensures.order
