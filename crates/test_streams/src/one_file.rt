@@ -140,10 +140,10 @@ fn its_file_is_read(rt: &impl Abort, alloc: Global) {
     let mut files = OneFile::new(b"/m/a.ko", b"bytes");
     let at = PathText::from_slice(alloc, b"/m/a.ko").expect(rt, "a path");
     let bytes = read(alloc, &mut files, &at).expect(rt, "bytes");
-    assert_eq!(rt; bytes.as_bytes(), b"bytes");
+    assert_eq!(rt; bytes.as_bytes(), b"bytes".as_slice());
     let mut buffer = FileBuffer::new(alloc);
     read_into(alloc, &mut files, &at, &mut buffer).expect(rt, "a buffer");
-    assert_eq!(rt; buffer.as_bytes(), b"bytes");
+    assert_eq!(rt; buffer.as_bytes(), b"bytes".as_slice());
     assert_eq!(rt; files.absences, 0);
 }
 
