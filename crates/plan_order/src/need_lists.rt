@@ -1,5 +1,5 @@
 // What each of many modules needs, in little memory while most of them need nothing.
-ghost use Rattle.std.specs.Prelude.{◌≡◌, ◌<◌, [], ℕ, length, IfOk, OnOk, slice_set};
+ghost use Rattle.std.specs.Prelude.{◌≡◌, ◌<◌, [], ℕ, length, IfOk, OnOk, OnErr, slice_set};
 ghost use Rattle.relation_order.specs.Sets.{successors};
 ghost use Rattle.relation_order.specs.Search.{Inside};
 ghost use Rattle.plan_order.specs.Lists.{items_of};
@@ -59,7 +59,8 @@ impl NeedLists {
     /// Puts a list in the place of a module's. There is memory for fewer than 2^32 such lists.
     pub fn put(&mut self, place: usize, list: Vec<usize>) -> Result<(), AllocError>
         requires { place < length self.old }
-        ensures { OnOk result (self.new ≡ slice_set self.old place list) }
+        ensures put { OnOk result (self.new ≡ slice_set self.old place list) }
+        ensures err { OnErr result (self.new ≡ self.old) }
     {
         let Ok(slot) = u32::try_from(self.kept.len()) else {
             return Err(AllocError);

@@ -24,7 +24,7 @@ use Rattle.relation_order.proofs.Finding.{has-items}
 use Rattle.dependency_lines.specs.Modules.{places_of}
 use Rattle.plan_sources.specs.Sources.{Sources, modules, is_available, found_names, soft_places}
 use Rattle.plan_sources.proofs.Troubled.{or-false}
-use Rattle.plan_sources.specs.Softdeps.{all_soft_names, AreSoftNames, loadable_places, PlaceLists}
+use Rattle.plan_sources.specs.Softdeps.{loadable_places, PlaceLists}
 use Rattle.plan_sources.specs.Softdeps.{kept_places, IsSoftTable, KnowsAvailable}
 
 -- ---- a name more
@@ -139,18 +139,17 @@ module _ (s : Sources) (names : List (List ℕ)) (lists : PlaceLists) (is : IsSo
 
 -- ---- what a table gives
 
-module _ (s : Sources) (lists : PlaceLists) (is : IsSoftTable s (all_soft_names s.rules) lists)
+module _ (s : Sources) (lists : PlaceLists) (held : List (List ℕ)) (is : IsSoftTable s held lists)
   where
     -- for names that it has, the modules that they stand for
-    given : (name : List ℕ) → is_among (all_soft_names s.rules) name ≡ true
+    given : (name : List ℕ) → is_among held name ≡ true
         → unwrap_or (kept_places lists name) [] ≡ loadable_places s name
     given name h
         = ap (λ o. unwrap_or o [])
         (is name ∙ ap (λ b. cond b (Some (loadable_places s name)) None) h)
 
     all-given : (names : List (List ℕ))
-        → ((name : List ℕ) → is_among names name ≡ true
-        → is_among (all_soft_names s.rules) name ≡ true)
+        → ((name : List ℕ) → is_among names name ≡ true → is_among held name ≡ true)
         → flat_map (λ name. unwrap_or (kept_places lists name) []) names
         ≡ flat_map (loadable_places s) names
     all-given [] among = refl
@@ -181,8 +180,9 @@ module _ (s : Sources) (lists : PlaceLists) (is : IsSoftTable s (all_soft_names 
         = filter-append q (f name) (flat_map f names)
         ∙ ap (λ ys. filter q (f name) ++ ys) (filter-each q f names)
 
-    -- for names of soft dependencies, the modules that they stand for and that can be loaded
-    pub soft-given : (x : ℕ) (names : List (List ℕ)) → AreSoftNames s.rules names
+    -- for those of soft dependencies, the modules that they stand for and that can be loaded
+    pub soft-given : (x : ℕ) (names : List (List ℕ))
+        → ((name : List ℕ) → is_among names name ≡ true → is_among held name ≡ true)
         → filter (λ y. not (y == x))
         (flat_map (λ name. unwrap_or (kept_places lists name) []) names)
         ≡ soft_places s x names
@@ -193,6 +193,15 @@ module _ (s : Sources) (lists : PlaceLists) (is : IsSoftTable s (all_soft_names 
         (λ name. places_of (modules s) (found_names s name)) names))
         ∙ sym (filter-and (λ y. not (y == x)) (is_available (modules s) s.unmet)
         (flat_map (λ name. places_of (modules s) (found_names s name)) names))
+
+-- the same where these names were added last
+pub soft-added : (s : Sources) (lists : PlaceLists) (held names : List (List ℕ))
+    → IsSoftTable s (held ++ names) lists → (x : ℕ)
+    → filter (λ y. not (y == x)) (flat_map (λ name. unwrap_or (kept_places lists name) []) names)
+    ≡ soft_places s x names
+soft-added s lists held names is x =
+    soft-given s lists (held ++ names) is x names
+    (λ name h. list_any-append (bytes_eq name) held names ∙ or_right _ _ h)
 
 -- ---- modules that names stand for, each once, a name more at a time
 

@@ -5,9 +5,9 @@
 //! modules, and the modules of the folder. It finds what a name stands for, and what a dependency
 //! line names. A [`RuleTable`] has the rules by the modules that they are on.
 //!
-//! A [`SoftTable`] has the names of all soft dependencies. Each is looked up once, and each module
-//! that one stands for is asked once whether it can be loaded. It gives the modules that names of
-//! soft dependencies stand for and that can be loaded.
+//! A [`SoftTable`] gives the modules that names of soft dependencies stand for and that can be
+//! loaded. A name is looked up when it is first asked for, and a module that it stands for is asked
+//! once whether it can be loaded. The table keeps both.
 //!
 //! The crate builds on `dependency_lines` for the modules and what their lines name, on
 //! `name_lookup` for what a name stands for, and on `indexmap` for the table of names, which come

@@ -6,10 +6,10 @@ ghost use Rattle.relation_order.specs.Search.{with_items};
 ghost use Rattle.plan_sources.specs.Sources.{soft_places};
 ghost use Rattle.plan_sources.specs.Planner.{sources_of};
 ghost use Rattle.plan_sources.specs.Kept.{texts};
-ghost use Rattle.plan_sources.specs.Softdeps.{AreSoftNames, kept_places, once};
+ghost use Rattle.plan_sources.specs.Softdeps.{kept_places, once};
 
 use crate::planner::Planner;
-use crate::softdeps::{SoftLists, soft_lists};
+use crate::softdeps::{SoftLists, add_names, nothing_known};
 use indexmap::IndexSet;
 use km_names::Name;
 use name_table::{NameHash, NameKey, NameSet};
@@ -17,33 +17,41 @@ use std::alloc::{AllocError, Global};
 use std::hash::BuildHasherDefault;
 use std::marker::Model;
 
-/// What the names of all soft dependencies stand for, each looked up once. Contracts see what plans
-/// are made from.
+/// What names of soft dependencies stand for. A name is looked up when it is first asked for, and
+/// a module is asked once whether it can be loaded. Contracts see what plans are made from.
 #[derive(Drop)]
 pub struct SoftTable<'p, 'a> {
     planner: &'p Planner<'a>,
+    /// For each module whether it can be loaded, if that was asked.
+    known: Vec<Option<bool>>,
+    /// For each name that was asked for, the modules that can be loaded.
     lists: SoftLists<'a>,
 }
 
 impl<'p, 'a> Model for SoftTable<'p, 'a> {
     ghost use Rattle.plan_sources.specs.Planner.{Held, sources_of};
-    ghost use Rattle.plan_sources.specs.Softdeps.{IsSoftTable, all_soft_names};
+    ghost use Rattle.plan_sources.specs.Softdeps.{HasSoftTable, KnowsAvailable};
 
     ghost Value = { Held };
 
     ghost view = { λ t. t.planner.now };
 
-    ghost invariant = { λ t. IsSoftTable (sources_of t.planner.now)
-        (all_soft_names t.planner.now.rules) t.lists.entries };
+    ghost invariant = { λ t. KnowsAvailable (sources_of t.planner.now) t.known.items
+        × HasSoftTable (sources_of t.planner.now) t.lists.entries };
 }
 
 impl<'p, 'a> SoftTable<'p, 'a> {
-    /// Makes the table of a planner's soft dependencies.
+    /// Makes a table for a planner's soft dependencies. No name was asked for.
     pub fn new(alloc: Global, planner: &'p Planner<'a>) -> Result<SoftTable<'p, 'a>, AllocError>
         ensures { IfOk result (λ table. table ≡ planner.now) }
     {
-        let lists = soft_lists(alloc, planner)?;
-        Ok(SoftTable { planner, lists })
+        let known = nothing_known(alloc, planner.modules().len())?;
+        let lists = SoftLists::with_hasher(alloc, BuildHasherDefault::new());
+        Ok(SoftTable {
+            planner,
+            known,
+            lists,
+        })
     }
 
     /// Returns what plans are made from.
@@ -55,17 +63,18 @@ impl<'p, 'a> SoftTable<'p, 'a> {
 
     /// Finds the modules that names of soft dependencies stand for, that can be loaded and that
     /// aren't this one, each once.
-    pub fn places<'n>(
-        &'n self,
+    pub fn places(
+        &mut self,
         alloc: Global,
         place: usize,
-        names: &[&'n Name],
+        names: &[&'a Name],
     ) -> Result<Vec<usize>, AllocError>
-        requires { AreSoftNames self.now.rules (texts names.now) }
-        ensures { IfOk result
+        ensures stays { self.new ≡ self.old }
+        ensures places { IfOk result
             (λ places. places.items
-            ≡ once (soft_places (sources_of self.now) place (texts names.now))) }
+            ≡ once (soft_places (sources_of self.old) place (texts names.now))) }
     {
+        add_names(alloc, self.planner, &mut self.known, &mut self.lists, names)?;
         find_named(alloc, &self.lists, place, names)
     }
 }
@@ -74,11 +83,11 @@ impl<'p, 'a> SoftTable<'p, 'a> {
 type PlaceSet = IndexSet<usize, NameHash>;
 
 /// Finds the modules that are kept under names and that aren't this one, each once.
-fn find_named<'n>(
+fn find_named<'a>(
     alloc: Global,
-    lists: &'n SoftLists<'_>,
+    lists: &SoftLists<'a>,
     place: usize,
-    names: &[&'n Name],
+    names: &[&'a Name],
 ) -> Result<Vec<usize>, AllocError>
     ensures { IfOk result
         (λ found. found.items
@@ -96,13 +105,13 @@ fn find_named<'n>(
 
 /// Finds the modules that are kept under names, over empty sets. A repeated name is skipped, unless
 /// it has so few modules that they are found again as fast.
-fn find_all<'n>(
+fn find_all<'a>(
     alloc: Global,
     found: &mut PlaceSet,
-    looked_up: &mut NameSet<'n>,
-    lists: &'n SoftLists<'_>,
+    looked_up: &mut NameSet<'a>,
+    lists: &SoftLists<'a>,
     place: usize,
-    names: &[&'n Name],
+    names: &[&'a Name],
 ) -> Result<Vec<usize>, AllocError>
     requires found { found.old.keys ≡ [] }
     requires looked_up { looked_up.old ≡ [] }
@@ -130,7 +139,11 @@ fn find_all<'n>(
 /// Returns the modules under a name, none if the lists don't have it, and where they go on after
 /// the name. The names of a rule are mostly one after the other in them. So the name is first
 /// compared with the next one, for which no hash is computed.
-fn places_under<'t>(lists: &'t SoftLists<'_>, next: usize, name: &'t [u8]) -> (&'t [usize], usize)
+fn places_under<'t, 'a>(
+    lists: &'t SoftLists<'a>,
+    next: usize,
+    name: &'a [u8],
+) -> (&'t [usize], usize)
     ensures { result.0.now ≡ unwrap_or (kept_places lists.now.entries name.now) [] }
 {
     if let Some(places) = places_at(lists, next, name) {

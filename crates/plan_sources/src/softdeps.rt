@@ -1,93 +1,47 @@
 // The modules that the names of soft dependencies stand for and that can be loaded.
 ghost use Rattle.std.specs.Prelude.{◌≡◌, ◌<◌, ◌++◌, ◌∷◌, [], ℕ, List, length, filter, replicate};
-ghost use Rattle.std.specs.Prelude.{None, All, IfOk, OnOk};
+ghost use Rattle.std.specs.Prelude.{None, All, IfOk, OnErr, OnOk};
 ghost use Rattle.plan_sources.specs.Sources.{modules, is_available};
 ghost use Rattle.plan_sources.specs.Planner.{sources_of};
-ghost use Rattle.plan_sources.specs.Softdeps.{IsSoftTable, KnowsAvailable, all_soft_names};
-ghost use Rattle.plan_sources.specs.Softdeps.{soft_names_in, loadable_places};
+ghost use Rattle.plan_sources.specs.Kept.{texts};
+ghost use Rattle.plan_sources.specs.Softdeps.{HasSoftTable, IsSoftTable, KnowsAvailable};
+ghost use Rattle.plan_sources.specs.Softdeps.{loadable_places};
 
 use crate::planner::Planner;
 use indexmap::IndexMap;
-use km_names::{Name, Names};
-use modprobe_conf::Rule;
+use km_names::Name;
 use name_table::{NameHash, NameKey};
 use std::alloc::{AllocError, Global};
-use std::hash::BuildHasherDefault;
 
 /// For each of some names the modules that it stands for and that can be loaded.
 pub(crate) type SoftLists<'a> = IndexMap<NameKey<'a>, Vec<usize>, NameHash>;
 
-/// Lists the modules of all names that soft dependencies have. Each name is looked up once, and
-/// each module asked once whether it can be loaded.
-pub(crate) fn soft_lists<'a>(
-    alloc: Global,
-    planner: &Planner<'a>,
-) -> Result<SoftLists<'a>, AllocError>
-    ensures { IfOk result
-        (λ lists. IsSoftTable (sources_of planner.now) (all_soft_names planner.now.rules)
-        lists.entries) }
-{
-    let mut known = nothing_known(alloc, planner.modules().len())?;
-    let mut lists = SoftLists::with_hasher(alloc, BuildHasherDefault::new());
-    let rules = planner.rules().all();
-    for rule in rules.as_slice() {
-        add_rule(alloc, planner, &mut known, &mut lists, rule)?;
-    }
-    Ok(lists)
-}
-
 /// Makes, for each of some modules, the mark that it isn't known yet whether it can be loaded.
-fn nothing_known(alloc: Global, count: usize) -> Result<Vec<Option<bool>>, AllocError>
+pub(crate) fn nothing_known(alloc: Global, count: usize) -> Result<Vec<Option<bool>>, AllocError>
     ensures { IfOk result (λ known. known.items ≡ replicate count None) }
 {
     vec![in alloc; None; count]
 }
 
-/// Adds the names that a rule has as soft dependencies.
-fn add_rule<'a>(
-    alloc: Global,
-    planner: &Planner<'a>,
-    known: &mut Vec<Option<bool>>,
-    lists: &mut SoftLists<'a>,
-    rule: &'a Rule,
-) -> Result<(), AllocError>
-    requires { KnowsAvailable (sources_of planner.now) known.old.items }
-    ensures known { OnOk result (KnowsAvailable (sources_of planner.now) known.new.items) }
-    ensures lists { OnOk result ((names : List (List ℕ))
-        → IsSoftTable (sources_of planner.now) names lists.old.entries
-        → IsSoftTable (sources_of planner.now) (names ++ soft_names_in rule.now)
-        lists.new.entries) }
-{
-    match rule {
-        Rule::Softdep { pre, post, .. } => {
-            add_names(alloc, planner, known, lists, pre)?;
-            add_names(alloc, planner, known, lists, post)
-        }
-        Rule::Alias { .. }
-        | Rule::Blacklist { .. }
-        | Rule::Options { .. }
-        | Rule::Install { .. }
-        | Rule::Remove { .. } => Ok(()),
-    }
-}
-
 /// Adds names. There is room for all of them before the first one is added.
-fn add_names<'a>(
+pub(crate) fn add_names<'a>(
     alloc: Global,
-    planner: &Planner<'a>,
+    planner: &Planner<'_>,
     known: &mut Vec<Option<bool>>,
     lists: &mut SoftLists<'a>,
-    more: &'a Names,
+    more: &[&'a Name],
 ) -> Result<(), AllocError>
     requires { KnowsAvailable (sources_of planner.now) known.old.items }
-    ensures known { OnOk result (KnowsAvailable (sources_of planner.now) known.new.items) }
+    ensures known { KnowsAvailable (sources_of planner.now) known.new.items }
     ensures lists { OnOk result ((names : List (List ℕ))
         → IsSoftTable (sources_of planner.now) names lists.old.entries
-        → IsSoftTable (sources_of planner.now) (names ++ more.now) lists.new.entries) }
+        → IsSoftTable (sources_of planner.now) (names ++ texts more.now) lists.new.entries) }
+    ensures some { OnErr result (HasSoftTable (sources_of planner.now) lists.old.entries
+        → HasSoftTable (sources_of planner.now) lists.new.entries) }
 {
     lists.reserve(more.len())?;
-    for name in more.as_slice() {
-        add_name(alloc, planner, known, lists, name)?;
+    for name in more {
+        add_name(alloc, planner, known, lists, *name)?;
     }
     Ok(())
 }
@@ -95,16 +49,17 @@ fn add_names<'a>(
 /// Adds a name, unless it was added before.
 fn add_name<'a>(
     alloc: Global,
-    planner: &Planner<'a>,
+    planner: &Planner<'_>,
     known: &mut Vec<Option<bool>>,
     lists: &mut SoftLists<'a>,
     name: &'a Name,
 ) -> Result<(), AllocError>
     requires { KnowsAvailable (sources_of planner.now) known.old.items }
-    ensures known { OnOk result (KnowsAvailable (sources_of planner.now) known.new.items) }
+    ensures known { KnowsAvailable (sources_of planner.now) known.new.items }
     ensures lists { OnOk result ((names : List (List ℕ))
         → IsSoftTable (sources_of planner.now) names lists.old.entries
         → IsSoftTable (sources_of planner.now) (names ++ name.now ∷ []) lists.new.entries) }
+    ensures err { OnErr result (lists.new.entries ≡ lists.old.entries) }
 {
     let key = NameKey::new(name.as_bytes());
     match lists.get(&key) {
@@ -126,7 +81,7 @@ fn loadable_places(
     name: &Name,
 ) -> Result<Vec<usize>, AllocError>
     requires { KnowsAvailable (sources_of planner.now) known.old.items }
-    ensures known { OnOk result (KnowsAvailable (sources_of planner.now) known.new.items) }
+    ensures known { KnowsAvailable (sources_of planner.now) known.new.items }
     ensures places { IfOk result
         (λ places. places.items ≡ loadable_places (sources_of planner.now) name.now) }
 {
@@ -147,7 +102,7 @@ fn only_loadable(
 ) -> Result<Vec<usize>, AllocError>
     requires known { KnowsAvailable (sources_of planner.now) known.old.items }
     requires places { All (λ y. y < length (modules (sources_of planner.now))) places.now }
-    ensures known { OnOk result (KnowsAvailable (sources_of planner.now) known.new.items) }
+    ensures known { KnowsAvailable (sources_of planner.now) known.new.items }
     ensures places { IfOk result
         (λ kept. kept.items
         ≡ filter
@@ -172,7 +127,7 @@ fn is_loadable(
 ) -> Result<bool, AllocError>
     requires known { KnowsAvailable (sources_of planner.now) known.old.items }
     requires place { place < length (modules (sources_of planner.now)) }
-    ensures known { OnOk result (KnowsAvailable (sources_of planner.now) known.new.items) }
+    ensures known { KnowsAvailable (sources_of planner.now) known.new.items }
     ensures answer { IfOk result
         (λ loadable. loadable
         ≡ is_available (modules (sources_of planner.now)) (sources_of planner.now).unmet

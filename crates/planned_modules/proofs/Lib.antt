@@ -2,4 +2,3 @@ pub mod Finds
 pub mod Marks
 pub mod Repeats
 pub mod RuleLaws
-pub mod SoftNames

@@ -35,34 +35,40 @@ pub(crate) fn push_all<'a>(names: &mut Vec<&'a Name>, more: &'a Names) -> Result
 /// What each module needs, over what the names of soft dependencies stand for. Contracts see what
 /// plans are made from.
 #[derive(Drop)]
-pub(crate) struct ModuleNeeds<'t, 'p, 'a> {
-    soft: &'t SoftTable<'p, 'a>,
+pub(crate) struct ModuleNeeds<'p, 'a> {
+    soft: SoftTable<'p, 'a>,
 }
 
-impl<'t, 'p, 'a> Model for ModuleNeeds<'t, 'p, 'a> {
+impl<'p, 'a> Model for ModuleNeeds<'p, 'a> {
     ghost use Rattle.plan_sources.specs.Planner.{Held};
 
     ghost Value = { Held };
 
-    ghost view = { λ n. n.soft.now };
+    ghost view = { λ n. n.soft };
 }
 
-impl<'t, 'p, 'a> ModuleNeeds<'t, 'p, 'a> {
+impl<'p, 'a> ModuleNeeds<'p, 'a> {
     /// Makes the needs of modules.
-    pub(crate) fn new(soft: &'t SoftTable<'p, 'a>) -> ModuleNeeds<'t, 'p, 'a>
-        ensures { result ≡ soft.now }
+    pub(crate) fn new(soft: SoftTable<'p, 'a>) -> ModuleNeeds<'p, 'a>
+        ensures { result ≡ soft.entry }
     {
         ModuleNeeds { soft }
     }
 
     /// Returns the modules that soft dependencies name on one side of a module, each once.
-    fn soft_places(&self, alloc: Global, place: usize, side: Side) -> Result<Vec<usize>, AllocError>
-        requires { place < length (modules_spec (sources_of self.now)) }
-        ensures { IfOk result
+    fn soft_places(
+        &mut self,
+        alloc: Global,
+        place: usize,
+        side: Side,
+    ) -> Result<Vec<usize>, AllocError>
+        requires { place < length (modules_spec (sources_of self.old)) }
+        ensures stays { self.new ≡ self.old }
+        ensures places { IfOk result
             (λ places. places.items
-            ≡ once (soft_places (sources_of self.now) place
-            (flat_map (names_on side (name_at (modules_spec (sources_of self.now)) place))
-            (sources_of self.now).rules))) }
+            ≡ once (soft_places (sources_of self.old) place
+            (flat_map (names_on side (name_at (modules_spec (sources_of self.old)) place))
+            (sources_of self.old).rules))) }
     {
         let planner = self.soft.planner();
         let name = planner.modules().name(place);
@@ -71,7 +77,7 @@ impl<'t, 'p, 'a> ModuleNeeds<'t, 'p, 'a> {
     }
 }
 
-impl<'t, 'p, 'a> Needs for ModuleNeeds<'t, 'p, 'a> {
+impl<'p, 'a> Needs for ModuleNeeds<'p, 'a> {
     ghost use Rattle.std.specs.Prelude.{length};
     ghost use Rattle.plan_sources.specs.Sources.{modules};
     ghost use Rattle.planned_modules.specs.Kept.{before_once, after_once};
@@ -83,7 +89,7 @@ impl<'t, 'p, 'a> Needs for ModuleNeeds<'t, 'p, 'a> {
 
     ghost after = { λ needs. after_once (sources_of needs) };
 
-    fn needed(&self, alloc: Global, place: usize) -> Result<Needed, AllocError> {
+    fn needed(&mut self, alloc: Global, place: usize) -> Result<Needed, AllocError> {
         let mut before = self.soft.planner().line_places(alloc, place)?;
         let soft = self.soft_places(alloc, place, Side::Before)?;
         before.extend_from_slice(&soft)?;
@@ -95,7 +101,7 @@ impl<'t, 'p, 'a> Needs for ModuleNeeds<'t, 'p, 'a> {
 /// Returns the names that soft dependencies have on one side of a module.
 fn soft_names<'a>(
     alloc: Global,
-    rules: &'a RuleTable<'_>,
+    rules: &RuleTable<'a>,
     name: &[u8],
     side: Side,
 ) -> Result<Vec<&'a Name>, AllocError>

@@ -86,6 +86,6 @@ fn planned_and_needed(
         (after_once (sources_of planner.now)) (items_of requests.now)) }
 {
     let soft = SoftTable::new(alloc, planner)?;
-    let needs = ModuleNeeds::new(&soft);
-    find_planned(alloc, &needs, free, requests)
+    let mut needs = ModuleNeeds::new(soft);
+    find_planned(alloc, &mut needs, free, requests)
 }

@@ -20,7 +20,7 @@ impl Needs for Ring {
 
     ghost after = { λ r n. (r.count - 1 - n) ∷ [] };
 
-    fn needed(&self, alloc: Global, place: usize) -> Result<Needed, AllocError> {
+    fn needed(&mut self, alloc: Global, place: usize) -> Result<Needed, AllocError> {
         let below = if place == 0 {
             self.count - 1
         } else {
@@ -46,7 +46,7 @@ static ROWS: [(&[bool], usize, &[usize], Option<usize>); 4] = [
 
 /// Returns the plan or the cycle of one requested module of a ring.
 fn found(rt: &impl Abort, alloc: Global, free: &[bool], request: usize) -> PlanOrCycle {
-    let ring = Ring { count: free.len() };
+    let mut ring = Ring { count: free.len() };
     assert!(rt; request < free.len());
     let Ok(group) = vec![in alloc; request] else {
         panic!(rt; "no memory");
@@ -54,7 +54,7 @@ fn found(rt: &impl Abort, alloc: Global, free: &[bool], request: usize) -> PlanO
     let Ok(requests) = vec![in alloc; group] else {
         panic!(rt; "no memory");
     };
-    let Ok(planned) = find_planned(alloc, &ring, free, &requests) else {
+    let Ok(planned) = find_planned(alloc, &mut ring, free, &requests) else {
         panic!(rt; "no memory");
     };
     match plan_or_cycle(alloc, &planned, free, &requests) {

@@ -9,6 +9,9 @@ use Rattle.plan_order.proofs.needs.find_planned.Goals as goal
 pub loop-next-init : goal.loop-next-init
 loop-next-init g c =
     record {
+      count = refl;
+      before_is = refl;
+      after_is = refl;
       progress
           = started (length c.args.free.now) c.args.free.now (g.N.Needs.before c.args.needs.now)
           (g.N.Needs.after c.args.needs.now) c.args.requests.now (length c.args.requests.now)
@@ -31,7 +34,7 @@ needed-requires g c =
     let l
     = inside-at c.loop-next.invariant.progress c.loop-next.next c.index-place.result.now
     (omega arith) c.index-place.ensures in
-    omega (arith, l, c.requires.free)
+    omega (arith, l, c.requires.free, c.loop-next.invariant.count)
 
 pub put-requires : goal.put-requires
 put-requires g c =
@@ -53,6 +56,11 @@ loop-next-preserved g c =
     let p = c.loop-next.invariant.progress in
     let place = c.index-place.result.now in
     let needed = c.in_ok-needed.needed in
+    let comes_before
+    = c.in_ok-needed.ensures.before ∙ ap (λ f. f place) c.loop-next.invariant.before_is in
+    let wanted_after
+    = c.in_ok-needed.ensures.after ∙ ap (λ f. f place) c.loop-next.invariant.after_is in
+    let low_count = c.loop-next.invariant.count ∙ sym c.requires.free in
     let free = c.args.free.now in
     let low
     = inside-at c.loop-next.invariant.progress c.loop-next.next c.index-place.result.now
@@ -71,49 +79,51 @@ loop-next-preserved g c =
     c.find_all.new.found.items c.find_all-in-loop-next.new.found.items (o.next + 1) middle
     last (omega arith) in
     record {
+      count = c.in_ok-needed.ensures.count_stays ∙ o.invariant.count;
+      before_is = c.in_ok-needed.ensures.before_stays ∙ o.invariant.before_is;
+      after_is = c.in_ok-needed.ensures.after_stays ∙ o.invariant.after_is;
       progress
           = followed (length free) free (g.N.Needs.before c.args.needs.now)
           (g.N.Needs.after c.args.needs.now) c.args.requests.now o.next place
           needed.before.items needed.after.items o.found.items c.find_all.new.found.items
           c.find_all-in-loop-next.new.found.items o.marks.items
           c.find_all-in-loop-next.new.seen.items
-          p (omega arith) c.index-place.ensures c.in_ok-needed.ensures.before
-          c.in_ok-needed.ensures.after middle last
+          p (omega arith) c.index-place.ensures comes_before wanted_after middle last
           (c.in_ok-find_all-2.ensures.marks (c.in_ok-find_all.ensures.marks p.marks))
           (c.in_ok-find_all-2.ensures.long ∙ c.in_ok-find_all.ensures.long ∙ p.long);
       before
           = subst (Follows (g.N.Needs.before c.args.needs.now)
           (take (o.next + 1) c.find_all-in-loop-next.new.found.items))
-          (sym c.in_ok-put.ensures)
+          (sym c.in_ok-put.ensures.put)
           (follows-more (g.N.Needs.before c.args.needs.now) o.found.items
           c.find_all-in-loop-next.new.found.items o.next place o.before needed.before
           o.invariant.before front (omega arith) c.index-place.ensures
-          (omega (arith, low, o.invariant.before_long)) c.in_ok-needed.ensures.before);
+          (omega (arith, low, o.invariant.before_long)) comes_before);
       after
           = subst (Follows (g.N.Needs.after c.args.needs.now)
           (take (o.next + 1) c.find_all-in-loop-next.new.found.items))
-          (sym c.in_ok-put-2.ensures)
+          (sym c.in_ok-put-2.ensures.put)
           (follows-more (g.N.Needs.after c.args.needs.now) o.found.items
           c.find_all-in-loop-next.new.found.items o.next place o.after needed.after
           o.invariant.after front (omega arith) c.index-place.ensures
-          (omega (arith, low, o.invariant.after_long)) c.in_ok-needed.ensures.after);
+          (omega (arith, low, o.invariant.after_long)) wanted_after);
       before_long
-          = ap length c.in_ok-put.ensures ∙ length-set o.before place needed.before
+          = ap length c.in_ok-put.ensures.put ∙ length-set o.before place needed.before
           ∙ o.invariant.before_long;
       after_long
-          = ap length c.in_ok-put-2.ensures ∙ length-set o.after place needed.after
+          = ap length c.in_ok-put-2.ensures.put ∙ length-set o.after place needed.after
           ∙ o.invariant.after_long;
       before_inside
-          = subst (Inside (length c.args.free.now)) (sym c.in_ok-put.ensures)
+          = subst (Inside (length c.args.free.now)) (sym c.in_ok-put.ensures.put)
           (inside-set (length c.args.free.now) o.before place needed.before
           o.invariant.before_inside
-          (subst (λ n. All (λ y. y < n) needed.before.items) (sym c.requires.free)
+          (subst (λ n. All (λ y. y < n) needed.before.items) low_count
           c.in_ok-needed.ensures.before_inside));
       after_inside
-          = subst (Inside (length c.args.free.now)) (sym c.in_ok-put-2.ensures)
+          = subst (Inside (length c.args.free.now)) (sym c.in_ok-put-2.ensures.put)
           (inside-set (length c.args.free.now) o.after place needed.after
           o.invariant.after_inside
-          (subst (λ n. All (λ y. y < n) needed.after.items) (sym c.requires.free)
+          (subst (λ n. All (λ y. y < n) needed.after.items) low_count
           c.in_ok-needed.ensures.after_inside));
     }
 

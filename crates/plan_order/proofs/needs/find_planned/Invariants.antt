@@ -6,10 +6,13 @@ use Rattle.plan_order.proofs.needs.find_planned.Given as goal
 abbrev pub invariant-loop-next : goal.invariant-loop-next
 invariant-loop-next g l =
     record {
-      progress : Progress (length l.free) l.free (g.N.Needs.before l.needs)
-          (g.N.Needs.after l.needs) l.requests l.next l.found.items l.marks.items;
-      before : Follows (g.N.Needs.before l.needs) (take l.next l.found.items) l.before;
-      after : Follows (g.N.Needs.after l.needs) (take l.next l.found.items) l.after;
+      count : g.N.Needs.count l.needs ≡ g.N.Needs.count l.fn.needs;
+      before_is : g.N.Needs.before l.needs ≡ g.N.Needs.before l.fn.needs;
+      after_is : g.N.Needs.after l.needs ≡ g.N.Needs.after l.fn.needs;
+      progress : Progress (length l.free) l.free (g.N.Needs.before l.fn.needs)
+          (g.N.Needs.after l.fn.needs) l.requests l.next l.found.items l.marks.items;
+      before : Follows (g.N.Needs.before l.fn.needs) (take l.next l.found.items) l.before;
+      after : Follows (g.N.Needs.after l.fn.needs) (take l.next l.found.items) l.after;
       before_long : length l.before ≡ length l.free;
       after_long : length l.after ≡ length l.free;
       before_inside : Inside (length l.free) l.before;

@@ -3,8 +3,8 @@ use Rattle.plan_order.specs.Slots.{at_slots}
 use Rattle.plan_order.proofs.SlotLaws.{slots-put}
 use Rattle.plan_order.proofs.need_lists.NeedLists.put.Goals as goal
 
-pub returns : goal.returns
-returns c =
+pub returns-clause-put : goal.returns-clause-put
+returns-clause-put c =
     let i = c.self.inside in
     let l : c.args.place < length (at_slots c.self.inside.kept.items c.self.inside.slots.items)
     = omega (arith, c.requires, ap length c.self.view_is) in

@@ -7,10 +7,9 @@ use Rattle.dependency_lines.specs.Modules.{name_at}
 use Rattle.plan_sources.specs.Sources.{modules, soft_places}
 use Rattle.plan_sources.specs.Planner.{Held, sources_of}
 use Rattle.plan_sources.specs.Kept.{texts}
-use Rattle.plan_sources.specs.Softdeps.{AreSoftNames, once}
+use Rattle.plan_sources.specs.Softdeps.{once}
 use Rattle.planned_modules.specs.declared.needs.Side.{Side}
 use Rattle.planned_modules.specs.Kept.{names_on}
-use Rattle.planned_modules.proofs.SoftNames.{on-rules}
 use Rattle.planned_modules.proofs.needs.ModuleNeeds.soft_places.Goals as goal
 
 -- the names that were gathered are those of the rules
@@ -33,20 +32,9 @@ name-name-requires c =
     ∙ ap (λ h. modules (sources_of h)) (c.planner-planner.ensures ∙ c.self.view_is)))
     c.requires
 
-pub places-requires : goal.places-requires
-places-requires c =
-    let h = c.self.inside.soft.now in
-    let own = name_at (modules (sources_of h)) c.args.place in
-    subst (AreSoftNames h.rules)
-    (sym (names-are c.args.side c.args.place h c.planner-planner.result.now c.modules.result.now
-    c.name-name.result.now c.rules.result.now (texts c.deref.result.now)
-    (ap texts c.deref.ensures.value ∙ c.in_ok-names.ensures) c.name-name.ensures
-    c.modules.ensures c.rules.ensures c.planner-planner.ensures))
-    (λ name among. on-rules c.args.side own name h.rules among)
-
-pub returns : goal.returns
-returns c =
-    let h = c.self.inside.soft.now in
+pub returns-clause-places : goal.returns-clause-places
+returns-clause-places c =
+    let h = c.self.inside.soft in
     let side = c.args.side in
     let place = c.args.place in
     subst (λ places. IfOk c.places.result (λ v. v.items ≡ places))
@@ -59,4 +47,4 @@ returns c =
     (soft_places (sources_of h) place
     (flat_map (names_on side (name_at (modules (sources_of h)) place)) h.rules)))
     c.self.view_is)
-    c.places.ensures
+    c.places.ensures.places
