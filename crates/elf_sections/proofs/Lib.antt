@@ -1,4 +1,3 @@
-pub mod NearLemmas
 pub mod Positions
 pub mod ShapeLemmas
 pub mod StringLemmas

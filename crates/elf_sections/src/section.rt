@@ -8,9 +8,9 @@ ghost use Rattle.elf_sections.specs.Strings.{HasStrings};
 
 use crate::SectionFault;
 use crate::header::section_header;
-use crate::strings::{SEARCH_LIMIT, string_in, string_within};
+use crate::strings::{SEARCH_LIMIT, string_within};
 use elf_format::{SHF_ALLOC, SHT_NULL};
-use km_names::Name;
+use km_names::{Name, string_at};
 use std::alloc::{AllocError, Global};
 
 /// A section of a file. gABI 4, "Sections", Elf64_Shdr.
@@ -136,7 +136,7 @@ fn section_name(names: &[u8], kind: u32, at: u32) -> &[u8]
     if kind == SHT_NULL {
         return &[];
     }
-    match string_in(names, at as usize) {
+    match string_at(names, at as usize) {
         Some(name) => name,
         None => &[],
     }

@@ -1,19 +1,12 @@
 // Strings in string tables. gABI 4, "String Table".
 
-ghost use Rattle.std.specs.Prelude.{◌≡◌, ◌+◌, ◌<◌, ◌≤◌, ◌==◌, length, map, Some, IfOk, IfSome};
-ghost use Rattle.std.specs.Prelude.{OnErr, option_copied};
-ghost use Rattle.std.specs.Simd.Lanes.{mask_l};
-ghost use Rattle.memchr.specs.Find.{IsFirstByte, is_byte};
-ghost use Rattle.km_names.specs.Strings.{first_string, string_at};
+ghost use Rattle.std.specs.Prelude.{◌≡◌, ◌+◌, ◌<◌, ◌≤◌, length, IfOk, IfSome, OnErr, option_copied};
+ghost use Rattle.km_names.specs.Strings.{string_at};
 ghost use Rattle.elf_sections.specs.Strings.{HasStrings};
 
 use km_names::{FILE_LIMIT, string_at};
 use memchr::memrchr;
 use std::alloc::AllocError;
-use std::simd::prelude::*;
-
-/// How many bytes are looked at together before a search. Nearly all names are shorter.
-const NEAR: usize = 32;
 
 /// The greatest total size, in bytes, of names that a reader copies: of a file's sections, of its
 /// symbols, of its needs, of its exports, or of their namespaces. It is four times as many as a
@@ -25,16 +18,6 @@ pub const NAME_LIMIT: usize = 4 * FILE_LIMIT;
 /// searches for their ends: 2^34. No file under a megabyte has as many, however its names share
 /// their bytes.
 pub const SEARCH_LIMIT: usize = 17_179_869_184;
-
-/// Returns the string at the place `at` of a table, if one is there.
-pub(crate) fn string_in(table: &[u8], at: usize) -> Option<&[u8]>
-    ensures { option_copied result ≡ string_at table.now at }
-{
-    match near_string_at(table, at) {
-        Some(name) => Some(name),
-        None => string_at(table, at),
-    }
-}
 
 /// Returns the string at the place `at` of a table, if one is there. Names may have `left` bytes
 /// more, and no more than one byte past those is read.
@@ -48,11 +31,6 @@ pub fn string_within(table: &[u8], at: u32, left: usize) -> Result<Option<&[u8]>
     ensures within { IfOk result (λ string. IfSome string (λ name. length name.now ≤ left)) }
 {
     let at = at as usize;
-    if let Some(name) = near_string_at(table, at) {
-        if name.len() <= left {
-            return Ok(Some(name));
-        }
-    }
     let end = (at + left + 1).min(table.len());
     match string_at(&table[..end], at) {
         Some(name) => Ok(Some(name)),
@@ -85,49 +63,4 @@ pub fn up_to_last_nul(table: &[u8]) -> &[u8]
         Some(last) => &table[..last + 1],
         None => &[],
     }
-}
-
-/// Returns the string at the place `at` of a table if its end is near.
-#[inline(always)]
-fn near_string_at(table: &[u8], at: usize) -> Option<&[u8]>
-    ensures { IfSome result (λ string. string_at table.now at ≡ Some string.now) }
-{
-    if table.len() <= at {
-        return None;
-    }
-    near_string(&table[at..])
-}
-
-/// Returns the string that the bytes begin with if its end is near.
-#[inline(always)]
-fn near_string(bytes: &[u8]) -> Option<&[u8]>
-    ensures { IfSome result (λ string. first_string bytes.now ≡ Some string.now) }
-{
-    match near_nul(bytes) {
-        Some(end) => Some(&bytes[..end]),
-        None => None,
-    }
-}
-
-/// Returns the place of the first NUL if it is near. Returns `None` also if there are few bytes.
-#[inline(always)]
-fn near_nul(bytes: &[u8]) -> Option<usize>
-    ensures { IfSome result (λ place. IsFirstByte (is_byte 0) bytes.now (Some place)) }
-{
-    if bytes.len() < NEAR {
-        return None;
-    }
-    let found = nuls(u8x32::from_slice(bytes));
-    if found == 0 {
-        return None;
-    }
-    Some(found.trailing_zeros() as usize)
-}
-
-/// Returns which of the bytes are NUL, with a bit for each.
-#[inline(always)]
-fn nuls(bytes: u8x32) -> u64
-    ensures { result ≡ mask_l (map (λ b. b == 0) bytes) }
-{
-    bytes.simd_eq(u8x32::splat(0)).to_bitmask()
 }

@@ -1,18 +1,11 @@
-ghost use Rattle.std.specs.Prelude.{◌≡◌, ◌+◌, ◌/◌, ◌≤◌, length, map, Some, IfOk, IfSome};
-ghost use Rattle.std.specs.Simd.Lanes.{mask_l};
-ghost use Rattle.memchr.specs.Find.{IsFirstByte, is_byte};
-ghost use Rattle.index_format.specs.Node.{is_nul};
+ghost use Rattle.std.specs.Prelude.{◌≡◌, ◌+◌, ◌/◌, ◌≤◌, length, IfOk};
 ghost use Rattle.index_nodes.specs.TextEnds.{block_start, IsTextEnd, AreTextEnds};
 
-use memchr::memchr;
+use km_names::{first_nul, near_nul};
 use std::alloc::{AllocError, Global};
-use std::simd::prelude::*;
 
 /// The bytes of one block.
 const BLOCK: usize = 1024;
-
-/// How many bytes are looked at together before a search. Nearly all prefixes are shorter.
-const NEAR: usize = 32;
 
 /// Where the texts of a file end, each before its first NUL or at the end of the file. For every
 /// block of the file it has the end of the text that begins with the block. So the end of any text
@@ -28,39 +21,6 @@ fn start_of(bytes: &[u8], block: usize) -> usize
     ensures { result ≡ block_start bytes.now block }
 {
     (block * BLOCK).min(bytes.len())
-}
-
-/// Returns which of the bytes are NUL, with a bit for each.
-#[inline(always)]
-fn nuls(bytes: u8x32) -> u64
-    ensures { result ≡ mask_l (map is_nul bytes) }
-{
-    bytes.simd_eq(u8x32::splat(0)).to_bitmask()
-}
-
-/// Returns the place of the first NUL if it is near. Returns `None` also if there are few bytes.
-#[inline(always)]
-fn near_nul(bytes: &[u8]) -> Option<usize>
-    ensures { IfSome result (λ place. IsFirstByte (is_byte 0) bytes.now (Some place)) }
-{
-    if bytes.len() < NEAR {
-        return None;
-    }
-    let found = nuls(u8x32::from_slice(bytes));
-    if found == 0 {
-        return None;
-    }
-    Some(found.trailing_zeros() as usize)
-}
-
-/// Finds the first NUL.
-fn first_nul(bytes: &[u8]) -> Option<usize>
-    ensures { IsFirstByte (is_byte 0) bytes.now result }
-{
-    match near_nul(bytes) {
-        Some(place) => Some(place),
-        None => memchr(0, bytes),
-    }
 }
 
 /// Returns where the text from `start` on ends, by the end of the text from a later place on.

@@ -6,3 +6,4 @@ pub mod StatementSteps
 pub mod Trims
 pub mod Positions
 pub mod Digits
+pub mod NearLemmas

@@ -35,6 +35,6 @@ pub use path::{is_compressed, join, module_name, underscored};
 pub use space::{split_word, trimmed, words};
 pub use split::split_at_byte;
 pub use statement::{Statement, parse_files};
-pub use string::{first_string, string_at};
+pub use string::{first_nul, first_string, near_nul, string_at};
 pub use texts::{cycle_text, not_found_text};
 pub use word::Word;

@@ -1,6 +1,6 @@
 use Rattle.std.proofs.Common.{eqb, w8, arith}
 use Rattle.std.proofs.lemmas.Simd.{bitmask_splat}
-use Rattle.index_nodes.proofs.text_ends.nuls.Goals as goal
+use Rattle.km_names.proofs.string.nuls.Goals as goal
 
 pub returns : goal.returns
 returns c = bitmask_splat w8 eqb c.args.bytes 32 0 c.fits-bytes.0 (omega arith)

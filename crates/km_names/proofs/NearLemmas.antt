@@ -1,15 +1,15 @@
--- The first NUL among the first bytes, by the mask of those that are NUL.
+-- The first NUL among the first 32 bytes, by the mask of those that are NUL.
 use Rattle.std.proofs.Common.{◌≡◌, sym, ap, ◌∙◌, ⊎_elim, refl, ℕ, ◌+◌, ◌*◌, ◌<◌, ◌≤◌, ◌==◌, Bool}
-use Rattle.std.proofs.Common.{true, false, not, cond, List, [], ◌∷◌, length, map, get_or, Some}
+use Rattle.std.proofs.Common.{true, false, not, cond, List, [], ◌∷◌, length, map, get_or, None, Some}
 use Rattle.std.proofs.Common.{arith}
 use Rattle.std.proofs.lemmas.Bool.{cases_lt, true≢false}
 use Rattle.std.proofs.lemmas.List.Sums.{prefix_len-le-length}
 use Rattle.std.proofs.lemmas.Simd.{length-chunk, trailing_mask_l, run_in_chunk_le}
-use Rattle.std.proofs.lemmas.Simd.{run_in_chunk_fails, run_in_chunk_stops}
+use Rattle.std.proofs.lemmas.Simd.{run_in_chunk_fails, run_in_chunk_stops, none_from_empty_mask}
 use Rattle.std.specs.List.{prefix_len}
 use lib.Lanes.{chunk, mask_l}
 use lib.Count.{count_trailing_zeros}
-use Rattle.memchr.specs.Find.{IsFirstByte, is_byte}
+use Rattle.memchr.specs.Find.{IsFirst, IsFirstByte, Passes, is_byte}
 
 abbrev is_nul : ℕ → Bool
 is_nul b = b == 0
@@ -28,7 +28,8 @@ none_set (x ∷ xs) e =
 
 pub near_found : (xs : List ℕ) (found place : ℕ) → 32 ≤ length xs
     → found ≡ mask_l (map is_nul (chunk 0 32 xs)) → (found ≡ 0 → ⊥)
-    → place ≡ count_trailing_zeros 64 found → IsFirstByte (is_byte 0) xs (Some place)
+    → place ≡ count_trailing_zeros 64 found
+    → IsFirst (Passes (is_byte 0) xs) 0 32 (Some place)
 near_found xs found place room is some counted =
     let c = chunk 0 32 xs in
     let long = length-chunk 0 32 xs room in
@@ -43,7 +44,7 @@ near_found xs found place room is some counted =
     (cases_lt place 32) in (
       record {
         low = omega arith;
-        high = omega (arith, short, room);
+        high = short;
         before
             = λ k low lt h. true≢false
             (sym h
@@ -52,3 +53,18 @@ near_found xs found place room is some counted =
       ap (λ k. is_nul (get_or xs k 0)) here
           ∙ run_in_chunk_stops is_nul xs 0 32 place 0 room run short,
     )
+
+-- it is the first of all
+pub near_first : (xs : List ℕ) (place : ℕ) → 32 ≤ length xs
+    → IsFirst (Passes (is_byte 0) xs) 0 32 (Some place) → IsFirstByte (is_byte 0) xs (Some place)
+near_first xs place room near = (
+  record { low = near.0.low; high = omega (arith, near.0.high, room); before = near.0.before },
+  near.1,
+)
+
+pub near_none : (xs : List ℕ) (found : ℕ) → 32 ≤ length xs
+    → found ≡ mask_l (map is_nul (chunk 0 32 xs)) → found ≡ 0
+    → IsFirst (Passes (is_byte 0) xs) 0 32 None
+near_none xs found room is none =
+    λ k low lt h. true≢false
+    (sym h ∙ none_from_empty_mask is_nul xs 0 32 0 room (sym is ∙ none) k low (omega (arith, lt)))
