@@ -1,4 +1,3 @@
-pub mod Digits
 pub mod FirstSteps
 pub mod LineSteps
 pub mod WrittenSteps

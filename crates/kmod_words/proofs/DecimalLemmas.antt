@@ -9,13 +9,8 @@ use Rattle.std.specs.Char.{is_digit, digit_value}
 use Rattle.std.specs.List.{list_all}
 use Rattle.std.specs.Result.{OkIff, result_ok}
 use Rattle.std.specs.Str.Parse.{AllDigits, ParsesUnsigned, digits_value}
+use Rattle.km_names.proofs.Digits.{AllDigits-tested}
 use Rattle.kmod_words.specs.Numbers.{decimal}
-
-AllDigits-tested : (ds : List ℕ) → list_all (λ b. is_digit b 10) ds ≡ true → AllDigits 10 ds
-AllDigits-tested [] tested = tt
-AllDigits-tested (d ∷ ds) tested =
-    let parts = and_parts (is_digit d 10) (list_all (λ b. is_digit b 10) ds) tested in
-    (ltb-true (digit_value d) 10 parts.0, AllDigits-tested ds parts.1)
 
 within : (n most : ℕ) → n ≤ most → leb n most ≡ true
 within n most h = grind (arith, nat_tests)
@@ -60,7 +55,7 @@ pub decimal-parsed : {E : Type 0} (most : ℕ) (text : List ℕ) (r : Result ℕ
     → list_all (λ b. is_digit b 10) text ≡ true → result_ok r ≡ decimal most text
 decimal-parsed {E} most text r parsed some few digits =
     go r (parse_digits (numerals_by_value (AllDigits 10) tells_digits) 64 text r parsed
-    (AllDigits-tested text digits))
+    (AllDigits-tested 10 text digits))
   where
     go : (r : Result ℕ E)
         → OkIff r ((0 < length text) × (digits_value 10 text < 2 ^ 64)) (digits_value 10 text)
