@@ -277,36 +277,8 @@ all-more n xs x all low =
 
 -- ---- lists of places
 
-pub successors-more : (lists : List (Vec ℕ)) (v : Vec ℕ) (x : ℕ) → x < length lists
-    → successors (lists ++ v ∷ []) x ≡ successors lists x
-successors-more [] v x l = absurd (omega arith)
-successors-more (w ∷ ws) v zero l = refl
-successors-more (w ∷ ws) v (suc x) l = successors-more ws v x (omega arith)
-
-pub successors-last : (lists : List (Vec ℕ)) (v : Vec ℕ) (x : ℕ) → x ≡ length lists
-    → successors (lists ++ v ∷ []) x ≡ v.items
-successors-last [] v zero e = refl
-successors-last [] v (suc x) e = absurd (omega arith)
-successors-last (w ∷ ws) v zero e = absurd (omega arith)
-successors-last (w ∷ ws) v (suc x) e = successors-last ws v x (omega arith)
-
 -- The first members' places go to each other as the members do.
 abbrev pub GoFirst : Relation → List ℕ → ℕ → List (Vec ℕ) → Type 0
 GoFirst r members n lists =
     (i j : ℕ) → i < n → j < length members
     → goes lists i j ≡ r (get_or members i 0) (get_or members j 0)
-
-pub go-more : (lists : List (Vec ℕ)) (members : List ℕ) (n : ℕ) (inner : List (Vec ℕ))
-    (v : Vec ℕ) (target : List ℕ)
-    → length inner ≡ n → n < length members → target ≡ successors lists (get_or members n 0)
-    → PlacesOf members target v.items
-    → GoFirst (goes lists) members n inner → GoFirst (goes lists) members (n + 1) (inner ++ v ∷ [])
-go-more lists members n inner v target long l is same old i j k m =
-    elim (cases_lt i n) [
-      | inl less ↦ ap (λ xs. has xs j) (successors-more inner v i (omega arith)) ∙ old i j less m
-      | inr more ↦
-          let e : i ≡ n = omega arith in
-          ap (λ xs. has xs j) (successors-last inner v i (omega arith)) ∙ same j m
-          ∙ ap (λ xs. has xs (get_or members j 0)) is
-          ∙ ap (λ x. goes lists (get_or members x 0) (get_or members j 0)) (sym e)
-    ]

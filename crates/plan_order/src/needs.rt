@@ -29,17 +29,17 @@ pub trait Needs {
     /// The modules that are to come after one.
     ghost after: { Self → ℕ → List ℕ };
 
-    /// Returns what a module needs. What it finds out may be kept for later calls. Then there are
-    /// as many modules as before, and each needs what it needed.
+    /// Returns what a module needs. What it finds out may be kept for later calls. There are as
+    /// many modules as before, and each needs what it needed.
     fn needed(&mut self, alloc: Global, place: usize) -> Result<Needed, AllocError>
         requires { place < count self.old }
         ensures before { IfOk result (λ n. n.before.items ≡ before self.old place) }
         ensures after { IfOk result (λ n. n.after.items ≡ after self.old place) }
         ensures before_inside { IfOk result (λ n. All (λ y. y < count self.old) n.before.items) }
         ensures after_inside { IfOk result (λ n. All (λ y. y < count self.old) n.after.items) }
-        ensures count_stays { OnOk result (count self.new ≡ count self.old) }
-        ensures before_stays { OnOk result (before self.new ≡ before self.old) }
-        ensures after_stays { OnOk result (after self.new ≡ after self.old) };
+        ensures count_stays { count self.new ≡ count self.old }
+        ensures before_stays { before self.new ≡ before self.old }
+        ensures after_stays { after self.new ≡ after self.old };
 }
 
 /// Which modules are planned, and what each of them needs. The lists of the others are empty.
@@ -64,9 +64,12 @@ pub fn find_planned<N: Needs>(
 ) -> Result<Planned, AllocError>
     requires free { length free.now ≡ N.count needs.old }
     requires requests { Inside (N.count needs.old) requests.now }
-    ensures { IfOk result
+    ensures planned { IfOk result
         (IsPlanned (N.count needs.old) (N.before needs.old) (marked free.now) (N.after needs.old)
         (items_of requests.now)) }
+    ensures count_stays { N.count needs.new ≡ N.count needs.old }
+    ensures before_stays { N.before needs.new ≡ N.before needs.old }
+    ensures after_stays { N.after needs.new ≡ N.after needs.old }
 {
     let mut marks = unmarked(alloc, free.len())?;
     let mut before = NeedLists::new(alloc, free.len())?;

@@ -127,8 +127,8 @@ loop-next-preserved g c =
           c.in_ok-needed.ensures.after_inside));
     }
 
-pub returns : goal.returns
-returns g c =
+pub returns-clause-planned : goal.returns-clause-planned
+returns-clause-planned g c =
     let o = c.loop-next in
     let p = c.loop-next.invariant.progress in
     let free = c.args.free.now in

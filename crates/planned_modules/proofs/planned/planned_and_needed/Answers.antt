@@ -17,4 +17,4 @@ returns c =
     (subst (λ h. IfOk c.find_planned.result
     (IsPlanned (length (modules (sources_of h))) (before_once (sources_of h)) set
     (after_once (sources_of h)) asks)) (c.new-needs.ensures ∙ c.in_ok-soft.ensures)
-    c.find_planned.ensures)
+    c.find_planned.ensures.planned)
