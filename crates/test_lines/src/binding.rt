@@ -1,9 +1,9 @@
 // Whether versions agree, and who may use an export.
-use crate::same::same_answer;
 use km_names::{Name, Names};
 use std::alloc::Global;
 use std::process::Abort;
 use symbol_binding::{agree, may_use, sees};
+use test_same::same_answer;
 
 /// Versions of 64 and of 32 bits, and whether they agree.
 static VERSIONS: [(Option<u64>, Option<u64>, bool); 5] = [

@@ -12,8 +12,6 @@ mod loaded;
 #[cfg(test)]
 mod rules;
 #[cfg(test)]
-mod same;
-#[cfg(test)]
 mod trees;
 #[cfg(test)]
 mod unmet;

@@ -1,6 +1,6 @@
 // The names of loaded modules.
-use crate::same::{same, same_length};
 use loaded_list::Loaded;
+use test_same::{same, same_length};
 
 /// Lines of loaded modules, and blank ones.
 static LINES: &[u8] = b"b 4096 0 - Live 0x0\n\n \t\r\n\ta\t8192 1 b, Live 0x0\r\nlast";

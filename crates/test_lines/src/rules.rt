@@ -2,12 +2,12 @@
 ghost use Rattle.std.specs.Prelude.{◌≤◌, length, All, IfOk};
 ghost use Rattle.km_names.specs.Limit.{file_limit};
 
-use crate::same::{same, same_number};
 use km_names::{ConfFault, ConfFiles, Names};
 use modprobe_conf::{Rule, Rules, parse};
 use std::alloc::{AllocError, Global};
 use std::process::Abort;
 use test_objects::{RowFault, conf_file};
+use test_same::{same, same_number};
 
 /// Returns the two files `0` and `1`.
 fn files_of(alloc: Global, first: &[u8], second: &[u8]) -> Result<ConfFiles, RowFault>

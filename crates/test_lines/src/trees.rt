@@ -2,12 +2,12 @@
 ghost use Rattle.std.specs.Prelude.{◌≤◌, length, All, IfOk};
 ghost use Rattle.km_names.specs.Limit.{file_limit};
 
-use crate::same::{same, same_number, same_option};
 use km_names::{Bytes, ConfFault, ConfFiles, List, PathText, Paths};
 use mod_tree::{Search, TreeFault, choose, line_path, parse_search};
 use std::alloc::{AllocError, Global};
 use std::process::Abort;
 use test_objects::{RowFault, conf_file};
+use test_same::{same, same_number, same_option};
 
 fn paths_of(rt: &impl Abort, alloc: Global, texts: &[&[u8]]) -> Paths {
     let mut paths = Paths::new(alloc);

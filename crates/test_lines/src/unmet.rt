@@ -1,9 +1,9 @@
 // The lines of modules.unmet.
-use crate::same::{same, same_length, same_number};
 use km_names::{ConfFault, PathText};
 use std::alloc::Global;
 use std::process::Abort;
 use symbol_binding::Unbound;
+use test_same::{same, same_length, same_number};
 use unmet_file::Unmet;
 
 /// A line of each form.

@@ -1,11 +1,11 @@
 //! Modules that are written out, and the facts that they are to be read with.
 
-use crate::same::{same, same_crc, same_number};
 use km_names::{Blob, Bytes, List, PathText};
 use module_facts::{Export, Exports, Facts, Module, ModuleFault, Need, Needs, read_module};
 use std::alloc::Global;
 use std::process::Abort;
 use test_objects::{EMPTY_MORE, EMPTY_SHEET, MoreRow, SheetRow, object_with};
+use test_same::{same, same_number};
 
 /// An export, written out.
 #[derive(Clone, Copy)]
@@ -75,6 +75,11 @@ pub(crate) fn module_of(
 ) -> Module {
     let bytes = object_with(alloc, sheet, more).expect(rt, "an object");
     module_at(rt, alloc, path, bytes).expect(rt, "a module")
+}
+
+/// Stops unless these are the same CRC, or there is none.
+fn same_crc(rt: &impl Abort, got: Option<u64>, want: Option<u64>) {
+    assert_eq!(rt; got, want);
 }
 
 fn expect_export(rt: &impl Abort, export: &Export, fact: &ExportFact) {

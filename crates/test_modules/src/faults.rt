@@ -2,13 +2,13 @@
 
 use crate::facts::{BUILT_AGAINST_11, GPL_AND_SPACES, LONG_NEED, THREE};
 use crate::facts_row::module_at;
-use crate::same::same;
 use elf_object::Object;
 use km_names::{Blob, FILE_LIMIT, le_u64_at};
 use module_facts::ModuleFault;
 use std::alloc::Global;
 use std::process::Abort;
 use test_objects::{MoreRow, NEEDS, NeedRow, PlaceRow, SheetRow, object_of, object_with};
+use test_same::same;
 
 /// Returns why there is no module of these bytes at the path.
 fn fault_at(rt: &impl Abort, alloc: Global, path: &[u8], bytes: Blob) -> ModuleFault {

@@ -10,5 +10,3 @@ mod facts;
 mod facts_row;
 #[cfg(test)]
 mod faults;
-#[cfg(test)]
-mod same;

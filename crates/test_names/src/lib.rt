@@ -9,6 +9,4 @@ mod lists;
 #[cfg(test)]
 mod names;
 #[cfg(test)]
-mod same;
-#[cfg(test)]
 mod tables;

@@ -1,8 +1,8 @@
 // Lists and words.
-use crate::same::{same, same_length, same_option};
 use km_names::{Blob, Name, Names, PathText, Word};
 use std::alloc::Global;
 use std::process::Abort;
+use test_same::{same, same_length, same_option};
 
 fn push_name(rt: &impl Abort, alloc: Global, names: &mut Names, text: &[u8]) {
     let name = Name::from_slice(alloc, text).expect(rt, "a name");

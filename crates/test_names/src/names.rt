@@ -1,11 +1,11 @@
 // Names of modules, paths, aliases, lines, words, strings and numbers.
-use crate::same::{same, same_answer, same_length, same_number, same_option};
 use km_names::{
-    Lines, PathText, Texts, conf_lines, hexadecimal, is_compressed, is_graphic, join, module_name,
-    normal_alias, split_word, string_at, words,
+    Lines, PathText, Texts, conf_lines, first_nul, hexadecimal, is_compressed, is_graphic, join,
+    module_name, near_nul, normal_alias, split_word, string_at, words,
 };
 use std::alloc::Global;
 use std::process::Abort;
+use test_same::{same, same_answer, same_length, same_number, same_option};
 
 /// Paths, the names of their modules, and whether they are paths of compressed modules.
 static PATHS: [(&[u8], &[u8], bool); 11] = [
@@ -146,6 +146,16 @@ static STRINGS: [(usize, Option<&[u8]>); 7] = [
     (17, None),
 ];
 
+/// Bytes, the place of their first NUL, and that place if it is one of the first 32.
+static NULS: [(&[u8], Option<usize>, Option<usize>); 6] = [
+    (b"", None, None),
+    (b"few\0", Some(3), None),
+    (b"0123456789abcdef0123456789abcdef", None, None),
+    (b"012\x00456789abcdef0123456789\0bcdef", Some(3), Some(3)),
+    (b"0123456789abcdef0123456789abcde\0", Some(31), Some(31)),
+    (b"0123456789abcdef0123456789abcdef\0", Some(32), None),
+];
+
 /// Texts, whether they are visible words, and the hexadecimal numbers that they are.
 static NUMBERS: [(&[u8], bool, Option<u64>); 8] = [
     (b"", false, None),
@@ -162,6 +172,10 @@ static NUMBERS: [(&[u8], bool, Option<u64>); 8] = [
 fn strings_and_numbers(rt: HostRuntime) {
     for (at, string) in &STRINGS {
         same_option(&rt, string_at(b"\0.text\0.data\0cut", *at), *string);
+    }
+    for (bytes, first, near) in &NULS {
+        assert_eq!(rt; first_nul(bytes), *first);
+        assert_eq!(rt; near_nul(bytes), *near);
     }
     for (text, graphic, number) in &NUMBERS {
         same_answer(&rt, is_graphic(text), *graphic);

@@ -9,6 +9,7 @@ use std::fs::File;
 use std::os::unix::fs::{PermissionsExt, symlink};
 use std::process::Abort;
 use std::{fs, io};
+use test_same::holds;
 
 /// What a read or a listing is to answer.
 type Wanted = Result<&'static [u8], FileAnswer>;
@@ -60,11 +61,6 @@ fn seen(answer: &Result<Blob, FileAnswer>) -> Result<&[u8], FileAnswer> {
         Ok(bytes) => Ok(bytes.as_bytes()),
         Err(answer) => Err(*answer),
     }
-}
-
-/// Stops unless this is so.
-fn holds(rt: &impl Abort, is_so: bool) {
-    assert!(rt; is_so);
 }
 
 /// Compares an answer with the expected bytes or refusal.

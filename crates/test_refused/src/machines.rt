@@ -1,6 +1,4 @@
-//! Machines into which modules were loaded, what can be seen of them, and comparisons.
-
-ghost use Rattle.std.specs.Prelude.{◌≡◌, true};
+//! Machines into which modules were loaded, and what can be seen of them.
 
 use km_names::{Blob, PathText};
 use model_loader::{LoadFault, LoadedAt, LoadedModule, Machine, Region};
@@ -8,6 +6,7 @@ use module_facts::{Module, read_module};
 use provider_rel::Kernel;
 use std::alloc::{AllocError, Global};
 use std::process::Abort;
+use test_same::{holds, same};
 
 /// The usual base of the region of modules.
 pub(crate) const BASE: u64 = 0xffff_ffff_c000_0000;
@@ -88,16 +87,4 @@ pub(crate) fn shown(rt: &impl Abort, alloc: Global, machine: &Machine) -> Vec<u8
 pub(crate) fn expect_shown(rt: &impl Abort, alloc: Global, machine: &Machine, want: &[u8]) {
     let text = shown(rt, alloc, machine);
     same(rt, text.as_slice(), want);
-}
-
-/// Stops unless this is so.
-pub(crate) fn holds(rt: &impl Abort, is_so: bool)
-    ensures { is_so ≡ true }
-{
-    assert!(rt; is_so);
-}
-
-/// Stops unless these are the same bytes.
-pub(crate) fn same(rt: &impl Abort, got: &[u8], want: &[u8]) {
-    holds(rt, got == want);
 }

@@ -20,6 +20,4 @@ mod params;
 #[cfg(test)]
 mod removals;
 #[cfg(test)]
-mod same;
-#[cfg(test)]
 mod users;

@@ -1,23 +1,15 @@
 //! Tests of the public calls of configurations, lookups and plans, as a user of the libraries makes
 //! them: each once, by its public path, with an answer that was worked out by hand.
 //!
-//! A module of it has the calls of one layer: the search list with the tree that it chooses,
-//! dependency lines, and rules with the plans by them. It builds on the crates whose calls these
-//! are, and on `test_objects` for files of a configuration.
+//! A module of it has the calls of one layer: the search list with the tree that it chooses, and
+//! rules with the plans by them. It builds on the crates whose calls these are, and on
+//! `test_sources` for what they are made with.
 //!
 //! A call with a long contract is made by a function that promises nothing, so that the contract
 //! isn't carried through the test.
 #![tactic(auto)]
 
 #[cfg(test)]
-mod configuration;
-#[cfg(test)]
-mod lines;
-#[cfg(test)]
-mod lists;
-#[cfg(test)]
 mod plans;
-#[cfg(test)]
-mod same;
 #[cfg(test)]
 mod search;

@@ -1,13 +1,7 @@
 //! Rules of the configuration, what names stand for, and plans.
 
-use crate::configuration::one_file;
-use crate::lines::{TWO_MODULES, adopt};
-use crate::lists::{names, path};
-use crate::same::{holds, same_option, shown};
-use index_read::Index;
-use index_write::{KeyMap, encode};
-use km_names::{Blob, ConfFault, Name};
-use modprobe_conf::{Rule, Rules, parse};
+use km_names::{Blob, Name};
+use modprobe_conf::{Rule, Rules};
 use name_lookup::{Found, Indexes, resolve};
 use plan_builder::{
     Loaded, Obstacle, PlanStep, PlanSteps, Request, Unmet, line_path, plan, well_formed,
@@ -15,13 +9,8 @@ use plan_builder::{
 use provider_rel::Unbound;
 use std::alloc::Global;
 use std::process::Abort;
-use test_objects::{is_key, is_text};
-
-/// Reads the rules of a configuration of one file.
-fn rules_of(rt: &impl Abort, alloc: Global, text: &[u8]) -> Result<Rules, ConfFault> {
-    let files = one_file(rt, alloc, text);
-    parse(alloc, &files)
-}
+use test_same::{holds, same_option, shown};
+use test_sources::{names, path, rules_of, two_indexes, unmet_of};
 
 /// Stops unless a rule is the soft dependencies of `m_b`.
 fn expect_softdep(rt: &impl Abort, alloc: Global, rule: Option<&Rule>) {
@@ -54,27 +43,6 @@ fn a_bad_line_is_reported(rt: &impl Abort, alloc: Global) {
     let refused = rules_of(rt, alloc, b"options x").err();
     let want = r#"Some(BadLine { file: "/e/a.conf", line: 1 })"#;
     shown(rt, alloc, refused, want);
-}
-
-/// Makes the index of a key with its text.
-fn index_of(rt: &impl Abort, alloc: Global, key: &[u8], text: &[u8]) -> Index {
-    let mut map = KeyMap::new(alloc);
-    holds(rt, is_key(key));
-    holds(rt, is_text(text));
-    map.add(key, 0, text).expect(rt, "added");
-    let file = encode(alloc, &map).expect(rt, "a file");
-    adopt(rt, alloc, file.as_bytes())
-}
-
-/// Makes the indexes of two modules and of `built`, which is built in. `b` needs `a`, which exports
-/// `fa` and has an alias.
-fn indexes(rt: &impl Abort, alloc: Global) -> Indexes {
-    Indexes {
-        dep: adopt(rt, alloc, TWO_MODULES),
-        alias: index_of(rt, alloc, b"usb:v*", b"a"),
-        symbols: index_of(rt, alloc, b"symbol:fa", b"a"),
-        builtin: index_of(rt, alloc, b"built", b""),
-    }
 }
 
 /// Looks up a name.
@@ -162,12 +130,6 @@ fn lines_of_ones_own_are_made(rt: &impl Abort, alloc: Global) {
     let lines = (unmet.len(), unmet.get(0), unmet.get(1));
     let want = r#"(1, Some(Missing { path: "m.ko", symbol: "x" }), None)"#;
     shown(rt, alloc, lines, want);
-}
-
-/// Reads the lines of a modules.unmet.
-fn unmet_of(rt: &impl Abort, alloc: Global, text: &[u8]) -> Result<Unmet, ConfFault> {
-    holds(rt, text.len() <= 67_108_864);
-    Unmet::read(alloc, &path(rt, alloc, b"modules.unmet"), text)
 }
 
 /// A modules.unmet with a line of each kind.
@@ -292,7 +254,7 @@ fn meet_obstacles(rt: &impl Abort, alloc: Global, indexes: &Indexes) {
 }
 
 fn names_are_looked_up_and_planned(rt: &impl Abort, alloc: Global) {
-    let indexes = indexes(rt, alloc);
+    let indexes = two_indexes(rt, alloc);
     look_up_names(rt, alloc, &indexes);
     ask_for_lines(rt, alloc, &indexes);
     make_plans(rt, alloc, &indexes);

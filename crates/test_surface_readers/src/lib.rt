@@ -16,8 +16,6 @@ mod indexes;
 #[cfg(test)]
 mod objects;
 #[cfg(test)]
-mod same;
-#[cfg(test)]
 mod symbols;
 #[cfg(test)]
 mod written;

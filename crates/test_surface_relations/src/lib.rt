@@ -18,6 +18,4 @@ mod nodes;
 #[cfg(test)]
 mod relation;
 #[cfg(test)]
-mod same;
-#[cfg(test)]
 mod stated;

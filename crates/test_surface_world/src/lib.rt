@@ -19,8 +19,6 @@ mod names;
 #[cfg(test)]
 mod outside;
 #[cfg(test)]
-mod same;
-#[cfg(test)]
 mod trees;
 #[cfg(test)]
 mod words;

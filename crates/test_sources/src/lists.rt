@@ -5,7 +5,7 @@ use std::alloc::Global;
 use std::process::Abort;
 
 /// Returns a list of these names, put in one by one.
-pub(crate) fn names(rt: &impl Abort, alloc: Global, texts: &[&[u8]]) -> Names {
+pub fn names(rt: &impl Abort, alloc: Global, texts: &[&[u8]]) -> Names {
     let mut list = Names::new(alloc);
     for text in texts {
         let name = Name::from_slice(alloc, text).expect(rt, "a name");
@@ -15,7 +15,7 @@ pub(crate) fn names(rt: &impl Abort, alloc: Global, texts: &[&[u8]]) -> Names {
 }
 
 /// Returns a list of these paths, put in one by one.
-pub(crate) fn paths(rt: &impl Abort, alloc: Global, texts: &[&[u8]]) -> Paths {
+pub fn paths(rt: &impl Abort, alloc: Global, texts: &[&[u8]]) -> Paths {
     let mut list = Paths::new(alloc);
     for text in texts {
         list.push(path(rt, alloc, text)).expect(rt, "paths");
@@ -24,6 +24,6 @@ pub(crate) fn paths(rt: &impl Abort, alloc: Global, texts: &[&[u8]]) -> Paths {
 }
 
 /// Returns a path.
-pub(crate) fn path(rt: &impl Abort, alloc: Global, text: &[u8]) -> PathText {
+pub fn path(rt: &impl Abort, alloc: Global, text: &[u8]) -> PathText {
     PathText::from_slice(alloc, text).expect(rt, "a path")
 }
