@@ -1,7 +1,10 @@
 // The files of indexes, byte by byte: modules.dep, modules.dep.bin, modules.alias,
 // modules.alias.bin, modules.softdep, modules.symbols, modules.symbols.bin, modules.builtin.bin and
 // modules.unmet. A separate program made the binary ones from the format.
-use test_rows::{NO_ALIASES, NO_KEYS, NO_SOFTDEPS, NO_SYMBOLS};
+use test_rows::{
+    NO_ALIASES, NO_KEYS, NO_SOFTDEPS, NO_SYMBOLS, ONE_LINE, ONE_LINE_INDEX, ONE_SYMBOL,
+    ONE_SYMBOL_INDEX, TWO_LINES, TWO_LINES_INDEX,
+};
 
 /// The contents of files of an index, in the order in which they are replaced.
 pub(crate) type Files = [&'static [u8]; 9];
@@ -52,10 +55,8 @@ pub(crate) const A_ALONE: Files = [
     NO_ALIASES,
     NO_KEYS,
     NO_SOFTDEPS,
-    b"# Aliases for symbols, used by symbol_request().\nalias symbol:fa a\n",
-    b"\xb0\x07\xf4W\x00\x02\x00\x01 \x00\x00\x1f\
-      ymbol:fa\x00\x00\x00\x00\x01\x00\x00\x00\x00a\x00\
-      ss\xc0\x00\x00\x0c",
+    ONE_SYMBOL,
+    ONE_SYMBOL_INDEX,
     NO_KEYS,
     b"",
 ];
@@ -99,10 +100,8 @@ pub(crate) const EXPORTED_TWICE: Files = [
 
 /// The same over an unknown kernel.
 pub(crate) const N_ALONE: Files = [
-    b"kernel/n.ko:\n",
-    b"\xb0\x07\xf4W\x00\x02\x00\x01 \x00\x00!\
-      \x00\x00\x00\x01\x00\x00\x00\x00kernel/n.ko:\x00\
-      nn@\x00\x00\x0c",
+    ONE_LINE,
+    ONE_LINE_INDEX,
     NO_ALIASES,
     NO_KEYS,
     NO_SOFTDEPS,
@@ -152,36 +151,26 @@ pub(crate) const WEAK_NEED: Files = [
 
 /// Of an export for modules with a free license, and a module without one that needs it.
 pub(crate) const GPL_LINE: Files = [
-    b"kernel/a.ko:\nkernel/b.ko: kernel/a.ko\n",
-    b"\xb0\x07\xf4W\x00\x02\x00\x01 \x00\x00B\
-      \x00\x00\x00\x01\x00\x00\x00\x00kernel/a.ko:\x00\
-      \x00\x00\x00\x01\x00\x00\x00\x01kernel/b.ko: kernel/a.ko\x00\
-      ab@\x00\x00\x0c@\x00\x00!",
+    TWO_LINES,
+    TWO_LINES_INDEX,
     NO_ALIASES,
     NO_KEYS,
     NO_SOFTDEPS,
-    b"# Aliases for symbols, used by symbol_request().\nalias symbol:fa a\n",
-    b"\xb0\x07\xf4W\x00\x02\x00\x01 \x00\x00\x1f\
-      ymbol:fa\x00\x00\x00\x00\x01\x00\x00\x00\x00a\x00\
-      ss\xc0\x00\x00\x0c",
+    ONE_SYMBOL,
+    ONE_SYMBOL_INDEX,
     NO_KEYS,
     b"gpl kernel/b.ko fa kernel/a.ko\n",
 ];
 
 /// Of an export in a namespace, and a module that needs it and doesn't import that.
 pub(crate) const NAMESPACE_LINE: Files = [
-    b"kernel/a.ko:\nkernel/b.ko: kernel/a.ko\n",
-    b"\xb0\x07\xf4W\x00\x02\x00\x01 \x00\x00B\
-      \x00\x00\x00\x01\x00\x00\x00\x00kernel/a.ko:\x00\
-      \x00\x00\x00\x01\x00\x00\x00\x01kernel/b.ko: kernel/a.ko\x00\
-      ab@\x00\x00\x0c@\x00\x00!",
+    TWO_LINES,
+    TWO_LINES_INDEX,
     NO_ALIASES,
     NO_KEYS,
     NO_SOFTDEPS,
-    b"# Aliases for symbols, used by symbol_request().\nalias symbol:fa a\n",
-    b"\xb0\x07\xf4W\x00\x02\x00\x01 \x00\x00\x1f\
-      ymbol:fa\x00\x00\x00\x00\x01\x00\x00\x00\x00a\x00\
-      ss\xc0\x00\x00\x0c",
+    ONE_SYMBOL,
+    ONE_SYMBOL_INDEX,
     NO_KEYS,
     b"namespace kernel/b.ko fa kernel/a.ko\n",
 ];
@@ -196,7 +185,7 @@ pub(crate) const UPDATED: Files = [
     NO_ALIASES,
     NO_KEYS,
     NO_SOFTDEPS,
-    b"# Aliases for symbols, used by symbol_request().\nalias symbol:fa a\n",
+    ONE_SYMBOL,
     b"\xb0\x07\xf4W\x00\x02\x00\x01 \x00\x00\x1f\
       ymbol:fa\x00\x00\x00\x00\x01\x00\x00\x00\x01a\x00\
       ss\xc0\x00\x00\x0c",
@@ -230,10 +219,8 @@ pub(crate) const UPDATED_B: Files = [
     NO_ALIASES,
     NO_KEYS,
     NO_SOFTDEPS,
-    b"# Aliases for symbols, used by symbol_request().\nalias symbol:fa a\n",
-    b"\xb0\x07\xf4W\x00\x02\x00\x01 \x00\x00\x1f\
-      ymbol:fa\x00\x00\x00\x00\x01\x00\x00\x00\x00a\x00\
-      ss\xc0\x00\x00\x0c",
+    ONE_SYMBOL,
+    ONE_SYMBOL_INDEX,
     NO_KEYS,
     b"",
 ];
@@ -255,11 +242,8 @@ pub(crate) const BUILT_IN: Files = [
 
 /// Of two modules. One needs a symbol with a long name of the other.
 pub(crate) const LONG_NAME: Files = [
-    b"kernel/a.ko:\nkernel/b.ko: kernel/a.ko\n",
-    b"\xb0\x07\xf4W\x00\x02\x00\x01 \x00\x00B\
-      \x00\x00\x00\x01\x00\x00\x00\x00kernel/a.ko:\x00\
-      \x00\x00\x00\x01\x00\x00\x00\x01kernel/b.ko: kernel/a.ko\x00\
-      ab@\x00\x00\x0c@\x00\x00!",
+    TWO_LINES,
+    TWO_LINES_INDEX,
     NO_ALIASES,
     NO_KEYS,
     NO_SOFTDEPS,
@@ -275,11 +259,8 @@ pub(crate) const LONG_NAME: Files = [
 
 /// The same, but it needs another version.
 pub(crate) const LONG_NAME_DIFFERS: Files = [
-    b"kernel/a.ko:\nkernel/b.ko: kernel/a.ko\n",
-    b"\xb0\x07\xf4W\x00\x02\x00\x01 \x00\x00B\
-      \x00\x00\x00\x01\x00\x00\x00\x00kernel/a.ko:\x00\
-      \x00\x00\x00\x01\x00\x00\x00\x01kernel/b.ko: kernel/a.ko\x00\
-      ab@\x00\x00\x0c@\x00\x00!",
+    TWO_LINES,
+    TWO_LINES_INDEX,
     NO_ALIASES,
     NO_KEYS,
     NO_SOFTDEPS,

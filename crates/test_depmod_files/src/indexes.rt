@@ -1,24 +1,22 @@
 // The files of indexes, byte by byte, in the order of `test_rows::TWO_FILES`. A separate program
 // made the binary ones from the format.
-use test_rows::{NO_ALIASES, NO_KEYS, NO_SOFTDEPS, NO_SYMBOLS};
+use test_rows::{
+    NO_ALIASES, NO_KEYS, NO_SOFTDEPS, NO_SYMBOLS, ONE_SYMBOL, ONE_SYMBOL_INDEX, TWO_LINES,
+    TWO_LINES_INDEX,
+};
 
 /// The contents of files of an index, in the order in which they are replaced.
 pub(crate) type Files = [&'static [u8]; 9];
 
 /// Of the two over a kernel that doesn't export `printk`.
 pub(crate) const PRINTK_MISSING: Files = [
-    b"kernel/a.ko:\nkernel/b.ko: kernel/a.ko\n",
-    b"\xb0\x07\xf4W\x00\x02\x00\x01 \x00\x00B\
-      \x00\x00\x00\x01\x00\x00\x00\x00kernel/a.ko:\x00\
-      \x00\x00\x00\x01\x00\x00\x00\x01kernel/b.ko: kernel/a.ko\x00\
-      ab@\x00\x00\x0c@\x00\x00!",
+    TWO_LINES,
+    TWO_LINES_INDEX,
     NO_ALIASES,
     NO_KEYS,
     NO_SOFTDEPS,
-    b"# Aliases for symbols, used by symbol_request().\nalias symbol:fa a\n",
-    b"\xb0\x07\xf4W\x00\x02\x00\x01 \x00\x00\x1f\
-      ymbol:fa\x00\x00\x00\x00\x01\x00\x00\x00\x00a\x00\
-      ss\xc0\x00\x00\x0c",
+    ONE_SYMBOL,
+    ONE_SYMBOL_INDEX,
     NO_KEYS,
     b"missing kernel/a.ko printk\n",
 ];

@@ -19,7 +19,10 @@ mod runs;
 pub use difference::{Difference, compare_all, compare_seen};
 pub use file_system::{FILE_SYSTEM, FILE_SYSTEM_KERNEL};
 pub use images::image;
-pub use indexes::{NO_ALIASES, NO_KEYS, NO_SOFTDEPS, NO_SYMBOLS, NOSUCH_MISSING, TWO_FILES};
+pub use indexes::{
+    NO_ALIASES, NO_KEYS, NO_SOFTDEPS, NO_SYMBOLS, NOSUCH_MISSING, ONE_LINE, ONE_LINE_INDEX,
+    ONE_SYMBOL, ONE_SYMBOL_INDEX, TWO_FILES, TWO_LINES, TWO_LINES_INDEX,
+};
 pub use objects::{Objects, words_of};
 pub use row::{
     DONE, EXTRA, Failing, FileRow, INDEX, INDEXED, ImageRow, KEPT, ModuleRow, PLAIN, Row, RowOf,
