@@ -1,4 +1,5 @@
 // Files and outputs, in memory and real.
+use crate::same::holds;
 use km_names::{Blob, Bytes, FILE_LIMIT, List, PathText};
 use km_outside::{
     CallKind, DiskFiles, FileAnswer, FileBuffer, Files, MemFiles, MemOut, Out, OutFailed,
@@ -9,7 +10,6 @@ use std::fs::File;
 use std::os::unix::fs::{PermissionsExt, symlink};
 use std::process::Abort;
 use std::{fs, io};
-use test_same::holds;
 
 /// What a read or a listing is to answer.
 type Wanted = Result<&'static [u8], FileAnswer>;

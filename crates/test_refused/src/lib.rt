@@ -13,3 +13,5 @@ mod loads;
 mod machines;
 #[cfg(test)]
 mod params;
+#[cfg(test)]
+mod same;

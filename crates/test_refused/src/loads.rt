@@ -1,13 +1,13 @@
 //! A load and removals, in which an allocation may be refused.
 
 use crate::machines::{BASE, expect_shown, load, machine_of, module_of, shown};
+use crate::same::{holds, same};
 use model_loader::{LoadFault, LoadedAt, Machine};
 use model_unload::{UnloadFault, unload};
 use module_facts::Module;
 use std::alloc::Global;
 use std::process::Abort;
 use test_objects::{GIVES, NEEDS, SheetRow, object_of};
-use test_same::{holds, same};
 
 /// Reads the module of a sheet at a path.
 fn read_once(rt: &impl Abort, alloc: Global, path: &[u8], row: &SheetRow) -> Option<Module> {

@@ -1,12 +1,12 @@
 //! Machines into which modules were loaded, and what can be seen of them.
 
+use crate::same::{holds, same};
 use km_names::{Blob, PathText};
 use model_loader::{LoadFault, LoadedAt, LoadedModule, Machine, Region};
 use module_facts::{Module, read_module};
 use provider_rel::Kernel;
 use std::alloc::{AllocError, Global};
 use std::process::Abort;
-use test_same::{holds, same};
 
 /// The usual base of the region of modules.
 pub(crate) const BASE: u64 = 0xffff_ffff_c000_0000;

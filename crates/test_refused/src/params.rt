@@ -1,6 +1,7 @@
 //! Options that are written into a copy of an image, while an allocation may be refused.
 
 use crate::machines::{BASE, expect_shown, machine_of, module_of, shown};
+use crate::same::{holds, same};
 use image_layout::image_size;
 use km_names::{List, Name};
 use model_loader::Machine;
@@ -8,7 +9,6 @@ use module_facts::Module;
 use param_apply::{ParamFault, Params, apply_params};
 use std::alloc::{AllocError, Global};
 use std::process::Abort;
-use test_same::{holds, same};
 use tree_gen::{SheetParam, SheetParams, param_object};
 
 /// Adds a parameter.

@@ -1,1 +1,2 @@
+mod LetterSteps
 mod TreeSteps

@@ -3,6 +3,7 @@ ghost use Rattle.std.specs.Prelude.{◌≡◌, ◌<◌, ◌↔◌, [], ◌∷◌
 
 use crate::machine::{kernel_of, kernel_of_printk, module_of};
 use crate::params::name_of;
+use crate::same::{holds, shown};
 use export_table::{
     ExportTable, Named, PlacedExport, Standing, check_bindings, given_addresses, kernel_table,
     named_exports, placed_exports,
@@ -15,7 +16,6 @@ use std::alloc::Global;
 use std::collections::VecDeque;
 use std::process::Abort;
 use test_objects::{FREE, GIVES_ALONE, IMPORTS, MAY_NEED_VERSION_2, NEEDS, NEEDS_NOSUCH, SheetRow};
-use test_same::{holds, shown};
 
 /// What a table has of a name: the version, whether only GPL-compatible modules may use it, the
 /// namespace, the address, and the owner.

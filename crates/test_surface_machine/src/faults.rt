@@ -1,13 +1,13 @@
 //! The texts of faults: why a machine isn't made, and why it refuses a module.
 
 use crate::params::name_of;
+use crate::same::{same, shown};
 use image_layout::LayFault;
 use km_names::Name;
 use load_fault::{LoadFault, MachineFault};
 use std::alloc::{AllocError, AllocFailed, Global};
 use std::fmt::{Debug, Display};
 use std::process::Abort;
-use test_same::{same, shown};
 use x86_relocate::Overflow;
 
 /// Stops unless a value is displayed as this text. It drops the value.

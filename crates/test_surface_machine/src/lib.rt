@@ -20,4 +20,6 @@ mod params;
 #[cfg(test)]
 mod removals;
 #[cfg(test)]
+mod same;
+#[cfg(test)]
 mod users;

@@ -1,6 +1,7 @@
 //! Images, relocations and the machine.
 ghost use Rattle.std.specs.Prelude.{◌≡◌};
 
+use crate::same::{holds, same, shown};
 use km_names::{Blob, PathText};
 use model_loader::{LoadFault, LoadedAt, Machine, Region};
 use module_facts::{Module, ModuleFault, read_module};
@@ -9,7 +10,6 @@ use raw_image::Image;
 use std::alloc::Global;
 use std::process::Abort;
 use test_objects::{GIVES, NEEDS, SheetRow, object_of};
-use test_same::{holds, same, shown};
 use x86_relocate::{Patch, Patches, apply, value};
 
 fn words_are_put_into_an_image(rt: &impl Abort, alloc: Global) {

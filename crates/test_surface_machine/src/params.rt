@@ -2,6 +2,7 @@
 //! of their images.
 
 use crate::machine::{BASE, load, machine, read};
+use crate::same::{holds, same_option, shown};
 use elf_object::Object;
 use image_layout::image_size;
 use km_names::{Blob, List, Name};
@@ -10,7 +11,6 @@ use module_facts::Module;
 use param_apply::{ParamFault, Params, apply_params};
 use std::alloc::Global;
 use std::process::Abort;
-use test_same::{holds, same_option, shown};
 use tree_gen::{SheetParam, SheetParams, param_object};
 
 /// Parameters, with their types.

@@ -2,6 +2,7 @@
 ghost use Rattle.std.specs.Prelude.{◌≤◌, length, All, IfOk};
 ghost use Rattle.km_names.specs.Limit.{file_limit};
 
+use crate::same::shown;
 use crate::users::machine_of_two;
 use km_names::{ConfFiles, Name, Names};
 use model_loader::Machine;
@@ -10,7 +11,6 @@ use remove_plan::{RemoveFault, RemovePlan, plan_removal};
 use std::alloc::Global;
 use std::process::Abort;
 use test_objects::{RowFault, conf_file};
-use test_same::shown;
 
 /// Makes a configuration of one file.
 fn one_file(alloc: Global, text: &[u8]) -> Result<ConfFiles, RowFault>

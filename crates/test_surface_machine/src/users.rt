@@ -3,11 +3,11 @@ ghost use Rattle.std.specs.Prelude.{◌≡◌, ◌<◌, length};
 ghost use Rattle.model_unload.specs.Unload.{first_user};
 
 use crate::machine::{load_a, load_b, machine};
+use crate::same::{holds, shown};
 use model_loader::Machine;
 use model_unload::{UnloadFault, unload};
 use std::alloc::Global;
 use std::process::Abort;
-use test_same::{holds, shown};
 
 /// Makes a machine with `a`, and with `b`, which needs it.
 pub(crate) fn machine_of_two(rt: &impl Abort, alloc: Global) -> Machine {

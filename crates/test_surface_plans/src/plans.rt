@@ -1,5 +1,10 @@
 //! Rules of the configuration, what names stand for, and plans.
 
+use crate::configuration::rules_of;
+use crate::indexes::two_indexes;
+use crate::lists::{names, path};
+use crate::same::{holds, same_option, shown};
+use crate::unmet::unmet_of;
 use km_names::{Blob, Name};
 use modprobe_conf::{Rule, Rules};
 use name_lookup::{Found, Indexes, resolve};
@@ -9,8 +14,6 @@ use plan_builder::{
 use provider_rel::Unbound;
 use std::alloc::Global;
 use std::process::Abort;
-use test_same::{holds, same_option, shown};
-use test_sources::{names, path, rules_of, two_indexes, unmet_of};
 
 /// Stops unless a rule is the soft dependencies of `m_b`.
 fn expect_softdep(rt: &impl Abort, alloc: Global, rule: Option<&Rule>) {

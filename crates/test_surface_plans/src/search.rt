@@ -1,11 +1,12 @@
 //! The search list of a configuration, and the tree that it chooses.
 
+use crate::configuration::one_file;
+use crate::lists::{names, paths};
+use crate::same::shown;
 use km_names::ConfFault;
 use mod_tree::{Search, Tree, TreeFault, choose, parse_search};
 use std::alloc::Global;
 use std::process::Abort;
-use test_same::shown;
-use test_sources::{names, one_file, paths};
 
 /// Reads the search list of a configuration of one file.
 fn search_of(rt: &impl Abort, alloc: Global, text: &[u8]) -> Result<Search, ConfFault> {

@@ -1,10 +1,10 @@
 //! The fields of built-in modules, and the map of their aliases.
 
+use crate::same::{holds, same, shown};
 use builtin_index::{builtin_aliases, builtin_fields};
 use index_write::encode;
 use std::alloc::Global;
 use std::process::Abort;
-use test_same::{holds, same, shown};
 
 /// A modules.builtin.modinfo of one module with an alias and a license.
 static TTY: &[u8] = b"tty.alias=tty-*\0tty.license=GPL\0";

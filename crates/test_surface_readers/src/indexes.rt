@@ -1,6 +1,7 @@
 //! Patterns, and index files: written, read node by node, and looked up.
 ghost use Rattle.std.specs.Prelude.{◌≡◌, ◌<◌};
 
+use crate::same::{holds, same, shown};
 use glob_match::matches;
 use index_nodes::{IndexFault, Nodes};
 use index_read::{FirstWalk, Index, Pairs, Steps, Values, distinct_texts};
@@ -11,7 +12,6 @@ use std::marker::Brand;
 use std::process::Abort;
 use std::sync::ledger::{Blank, Ledger};
 use test_objects::{is_key, is_text};
-use test_same::{holds, same, shown};
 
 /// The file of five keys, `ask`, `ate`, `on`, `once` and `one`, each with its place as the priority
 /// and the text `x`.

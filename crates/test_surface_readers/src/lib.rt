@@ -16,6 +16,8 @@ mod indexes;
 #[cfg(test)]
 mod objects;
 #[cfg(test)]
+mod same;
+#[cfg(test)]
 mod symbols;
 #[cfg(test)]
 mod written;

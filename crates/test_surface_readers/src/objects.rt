@@ -1,5 +1,6 @@
 //! Objects, the fields of `.modinfo`, and the facts of modules.
 
+use crate::same::{holds, same, shown};
 use elf_object::{Object, ObjectFault, SectionFault, Sections};
 use km_names::{Blob, List, Name, PathText};
 use modinfo_fields::{Field, FieldList, fields};
@@ -11,7 +12,6 @@ use test_objects::{
     EMPTY_MORE, EMPTY_SHEET, GIVES_ALONE, GPL_ONLY, IN_SPACE, LICENSE_OBJECT, MoreRow, NO_MORE,
     NeedRow, SheetRow, VersionRow, object_with,
 };
-use test_same::{holds, same, shown};
 use tree_gen::{
     Sheet, SheetMore, SheetNeed, SheetPlace, SheetVersion, is_sheet, object, object_more,
 };

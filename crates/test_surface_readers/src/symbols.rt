@@ -1,6 +1,7 @@
 //! What the symbols of a module state: its exports and needs, with their versions.
 ghost use Rattle.module_symbols.specs.SymbolTables.{HasTables};
 
+use crate::same::{holds, same, shown};
 use crate::written::{push_bytes, written};
 use elf_object::ObjectView;
 use elf_write::push_further;
@@ -15,7 +16,6 @@ use test_objects::{
     EMPTY_MORE, EMPTY_SHEET, ExportRow, LICENSE_OBJECT, MoreRow, NeedRow, SheetRow, SpaceRow,
     VersionRow, object_with,
 };
-use test_same::{holds, same, shown};
 
 /// A module that exports `fa` with a version, and needs `printk` in one.
 const SHEET: SheetRow = SheetRow {

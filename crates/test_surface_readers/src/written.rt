@@ -1,6 +1,7 @@
 //! Object files, written section by section.
 ghost use Rattle.std.specs.Prelude.{◌≡◌, ◌≤◌, ◌↔◌, length, All, IsTrue};
 
+use crate::same::{holds, same};
 use elf_write::{
     Attributes, Part, file_of, push_further, push_half, push_part, push_word, push_xword,
     push_zeros, zeros,
@@ -8,7 +9,6 @@ use elf_write::{
 use km_names::Blob;
 use std::alloc::Global;
 use std::process::Abort;
-use test_same::{holds, same};
 
 fn numbers_are_written(rt: &impl Abort, alloc: Global) {
     let mut out = zeros(alloc, 2).expect(rt, "zeros");

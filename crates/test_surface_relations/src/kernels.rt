@@ -1,9 +1,9 @@
 //! The tables of kernels, by their files.
 
+use crate::same::{holds, shown};
 use kernel_exports::{Kernel, KernelExports, KernelFault, SystemMap};
 use std::alloc::{AllocError, AllocFailed, Global};
 use std::process::Abort;
-use test_same::{holds, shown};
 
 // Each table is read by a function that promises nothing.
 

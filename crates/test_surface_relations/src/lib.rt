@@ -18,4 +18,6 @@ mod nodes;
 #[cfg(test)]
 mod relation;
 #[cfg(test)]
+mod same;
+#[cfg(test)]
 mod stated;

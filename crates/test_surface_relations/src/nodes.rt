@@ -1,13 +1,13 @@
 //! Device nodes, their text, and its reader.
 
 use crate::lists::texts;
+use crate::same::{holds, shown};
 use devname_nodes::{NodeList, nodes, nodes_text, read_nodes};
 use km_names::{ConfFault, Name, Names, PathText, Texts};
 use module_facts::{Exports, Facts, Needs};
 use provider_rel::TreeFacts;
 use std::alloc::Global;
 use std::process::Abort;
-use test_same::{holds, shown};
 
 /// Returns a path.
 fn path(rt: &impl Abort, alloc: Global, text: &[u8]) -> PathText {

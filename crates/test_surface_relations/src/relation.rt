@@ -9,13 +9,13 @@ ghost use Rattle.depmod_core.specs.Files.{IsRelationOf};
 
 use crate::kernels::usual_kernel;
 use crate::lists::texts;
+use crate::same::{holds, shown};
 use depmod_core::{OutputFault, OutputFiles, outputs};
 use km_names::{List, Name, Names, PathText, TreeIndex, is_graphic};
 use module_facts::{Export, Exports, Facts, Need, Needs};
 use provider_rel::{Relation, RelationFault, TreeFacts, agree};
 use std::alloc::Global;
 use std::process::Abort;
-use test_same::{holds, shown};
 
 fn versions_agree(rt: &impl Abort) {
     holds(rt, agree(Some(0x1234_5678), None));

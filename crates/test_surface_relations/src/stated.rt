@@ -4,12 +4,12 @@ ghost use Rattle.provider_rel.specs.Tree.{IsTree};
 ghost use Rattle.stated_texts.specs.AllStated.{AreAllStated};
 
 use crate::relation::{B, ModuleRow, tree_of_two};
+use crate::same::{holds, shown};
 use index_write::{KeyMap, encode};
 use provider_rel::TreeFacts;
 use stated_texts::{AllStated, StatedKind, Text, put_stated_text, stated_map};
 use std::alloc::{AllocError, Global};
 use std::process::Abort;
-use test_same::{holds, shown};
 
 fn texts_are_kept(rt: &impl Abort, alloc: Global) {
     let mut text = Text::with_capacity(alloc, 2).expect(rt, "a text");

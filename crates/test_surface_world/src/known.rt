@@ -2,6 +2,7 @@
 
 use crate::lists::{names, path};
 use crate::outside::put;
+use crate::same::{holds, shown};
 use km_course::Stop;
 use km_names::Names;
 use km_outside::{MemFiles, Reads};
@@ -9,7 +10,6 @@ use modprobe_conf::{Rule, Rules};
 use stages_known::{Known, names_found, read_known};
 use std::alloc::Global;
 use std::process::Abort;
-use test_same::{holds, shown};
 
 // Each call is made by a function that promises nothing.
 

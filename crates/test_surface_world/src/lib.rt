@@ -19,6 +19,8 @@ mod names;
 #[cfg(test)]
 mod outside;
 #[cfg(test)]
+mod same;
+#[cfg(test)]
 mod trees;
 #[cfg(test)]
 mod words;

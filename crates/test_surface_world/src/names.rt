@@ -1,10 +1,10 @@
 //! Names, paths, aliases, lines of configuration, lists and words.
 
 use crate::lists::{names, path};
+use crate::same::{holds, shown};
 use km_names::{TreeIndex, Word, conf_lines, is_compressed, join, module_name, normal_alias};
 use std::alloc::Global;
 use std::process::Abort;
-use test_same::{holds, shown};
 
 fn lists_are_made_and_read(rt: &impl Abort, alloc: Global) {
     let list = names(rt, alloc, &[b"fat".as_slice(), b"", b"vfat"]);

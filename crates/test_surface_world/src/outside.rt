@@ -1,6 +1,7 @@
 //! Files and outputs in memory, and those of the machine.
 
 use crate::lists::path;
+use crate::same::{holds, same, same_option, shown};
 use km_names::{Blob, Names, Paths};
 use km_outside::{
     CallKind, DiskFiles, FileAnswer, Files, MemFiles, MemOut, Out, OutFailed, Reads, ReplaceAnswer,
@@ -8,7 +9,6 @@ use km_outside::{
 };
 use std::alloc::Global;
 use std::process::Abort;
-use test_same::{holds, same, same_option, shown};
 
 // Each call of files has a function that promises nothing.
 

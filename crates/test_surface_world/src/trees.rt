@@ -2,10 +2,10 @@
 
 use crate::lists::path;
 use crate::outside::expect_file;
+use crate::same::holds;
 use km_outside::MemFiles;
 use std::alloc::Global;
 use std::process::Abort;
-use test_same::holds;
 use tree_gen::generate;
 
 /// Paths below the folder of a trial of two modules, and whether files are there.

@@ -1,12 +1,12 @@
 //! Words after each command, and what they ask for.
 
 use crate::lists::words;
+use crate::same::shown;
 use kmod_words::{
     read_builtin_alias, read_depmod, read_modinfo, read_modprobe, read_static_nodes, read_trial,
 };
 use std::alloc::Global;
 use std::process::Abort;
-use test_same::shown;
 
 // Each reader is called by a function that promises nothing.
 
