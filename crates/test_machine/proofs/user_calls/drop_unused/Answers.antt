@@ -1,6 +1,6 @@
 use Rattle.std.proofs.Common.{◌∙◌, sym}
 use Rattle.model_unload.proofs.UnloadLemmas.{unused-by-none}
-use Rattle.test_surface_machine.proofs.users.drop_unused.Goals as goal
+use Rattle.test_machine.proofs.user_calls.drop_unused.Goals as goal
 
 -- no user was found
 pub drop_entry-requires-clause-unused : goal.drop_entry-requires-clause-unused

@@ -1,7 +1,7 @@
 //! Modules of parameters, the places of their sections, and options that are written into copies
 //! of their images.
 
-use crate::machine::{BASE, load, machine, read};
+use crate::machine_calls::{BASE, load, machine, read};
 use crate::same::{holds, same_option, shown};
 use elf_object::Object;
 use image_layout::image_size;

@@ -3,7 +3,7 @@ ghost use Rattle.std.specs.Prelude.{◌≤◌, length, All, IfOk};
 ghost use Rattle.km_names.specs.Limit.{file_limit};
 
 use crate::same::shown;
-use crate::users::machine_of_two;
+use crate::user_calls::machine_of_two;
 use km_names::{ConfFiles, Name, Names};
 use model_loader::Machine;
 use modprobe_conf::{Rules, parse};

@@ -2,7 +2,7 @@
 ghost use Rattle.std.specs.Prelude.{◌≡◌, ◌<◌, length};
 ghost use Rattle.model_unload.specs.Unload.{first_user};
 
-use crate::machine::{load_a, load_b, machine};
+use crate::machine_calls::{load_a, load_b, machine};
 use crate::same::{holds, shown};
 use model_loader::Machine;
 use model_unload::{UnloadFault, unload};

@@ -1,7 +1,7 @@
 use Rattle.std.proofs.Common.{◌≡◌, ◌∙◌, ◌<◌, length, sym, subst, false}
 use Rattle.model_loader.specs.Use.{binds}
 use Rattle.model_loader.proofs.PlaceLemmas.{find-later}
-use Rattle.test_surface_machine.proofs.users.first_user.Goals as goal
+use Rattle.test_machine.proofs.user_calls.first_user.Goals as goal
 
 pub loop-k-preserved : goal.loop-k-preserved
 loop-k-preserved c =

@@ -1,6 +1,6 @@
 //! The texts of faults: why a machine isn't made, and why it refuses a module.
 
-use crate::params::name_of;
+use crate::param_calls::name_of;
 use crate::same::{same, shown};
 use image_layout::LayFault;
 use km_names::Name;

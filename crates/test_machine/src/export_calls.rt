@@ -1,8 +1,8 @@
 //! The table of exported names: those of a kernel and of modules, and the tests of a module by it.
 ghost use Rattle.std.specs.Prelude.{◌≡◌, ◌<◌, ◌↔◌, [], ◌∷◌, All, IsTrue};
 
-use crate::machine::{kernel_of, kernel_of_printk, module_of};
-use crate::params::name_of;
+use crate::machine_calls::{kernel_of, kernel_of_printk, module_of};
+use crate::param_calls::name_of;
 use crate::same::{holds, shown};
 use export_table::{
     ExportTable, Named, PlacedExport, Standing, check_bindings, given_addresses, kernel_table,
