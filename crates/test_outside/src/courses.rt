@@ -20,6 +20,10 @@ fn same(rt: &impl Abort, got: &[u8], want: &[u8]) {
     assert_eq!(rt; got, want);
 }
 
+fn same_count(rt: &impl Abort, got: usize, want: usize) {
+    assert_eq!(rt; got, want);
+}
+
 // Each call is in a function of its own that promises nothing: a test compares what the call
 // answered, and its contract needn't be carried along. A stop ends the test there, so that no test
 // has to drop it.
@@ -110,13 +114,13 @@ fn what_is_not_there_is_empty(rt: &impl Abort, alloc: Global) {
         read_any(rt, alloc, &mut files, b"/none").as_bytes(),
         b"",
     );
-    assert_eq!(rt; list_any(rt, alloc, &mut files, b"/none"), 0);
+    same_count(rt, list_any(rt, alloc, &mut files, b"/none"), 0);
 }
 
 fn a_folder_is_listed(rt: &impl Abort, alloc: Global) {
     let mut files = made(rt, alloc);
-    assert_eq!(rt; list(rt, alloc, &mut files, b"/e"), 1);
-    assert_eq!(rt; list_below(rt, alloc, &mut files, b"/e"), 2);
+    same_count(rt, list(rt, alloc, &mut files, b"/e"), 1);
+    same_count(rt, list_below(rt, alloc, &mut files, b"/e"), 2);
 }
 
 fn bytes_are_written(rt: &impl Abort, alloc: Global) {

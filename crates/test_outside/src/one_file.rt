@@ -1,6 +1,7 @@
 //! Files and an output of a user's own, by the calls that have no body of their own.
 ghost use Rattle.std.specs.Prelude.{None, true};
 
+use crate::same::{holds, same};
 use km_names::{Blob, FILE_LIMIT, Names, PathText, Paths};
 use km_outside::{FileAnswer, FileBuffer, Files, Out, OutFailed, Reads, ReplaceAnswer, Writes};
 use std::alloc::Global;
@@ -136,26 +137,37 @@ fn an_output_of_a_users_own(rt: HostRuntime) {
     assert_eq!(rt; out.count, 5);
 }
 
+fn same_answer(rt: &impl Abort, got: Option<FileAnswer>, want: Option<FileAnswer>) {
+    assert_eq!(rt; got, want);
+}
+
+/// What a file wasn't replaced for, and what a folder wasn't listed for.
+type Answers = (Option<ReplaceAnswer>, Option<FileAnswer>);
+
+fn same_answers(rt: &impl Abort, got: Answers, want: Answers) {
+    assert_eq!(rt; got, want);
+}
+
 fn its_file_is_read(rt: &impl Abort, alloc: Global) {
     let mut files = OneFile::new(b"/m/a.ko", b"bytes");
     let at = PathText::from_slice(alloc, b"/m/a.ko").expect(rt, "a path");
     let bytes = read(alloc, &mut files, &at).expect(rt, "bytes");
-    assert_eq!(rt; bytes.as_bytes(), b"bytes".as_slice());
+    same(rt, bytes.as_bytes(), b"bytes");
     let mut buffer = FileBuffer::new(alloc);
     read_into(alloc, &mut files, &at, &mut buffer).expect(rt, "a buffer");
-    assert_eq!(rt; buffer.as_bytes(), b"bytes".as_slice());
-    assert_eq!(rt; files.absences, 0);
+    same(rt, buffer.as_bytes(), b"bytes");
+    holds(rt, files.absences == 0);
 }
 
 fn others_are_absent(rt: &impl Abort, alloc: Global) {
     let mut files = OneFile::new(b"/m/a.ko", b"bytes");
     let at = PathText::from_slice(alloc, b"/m/b.ko").expect(rt, "a path");
-    let answer = read(alloc, &mut files, &at).err();
-    assert_eq!(rt; answer, Some(FileAnswer::Absent));
-    assert_eq!(rt; list(alloc, &mut files, &at), answer);
-    let want = (Some(ReplaceAnswer::Memory), answer);
-    assert_eq!(rt; replace_and_list(alloc, &mut files, &at), want);
-    assert_eq!(rt; files.absences, 3);
+    let absent = Some(FileAnswer::Absent);
+    same_answer(rt, read(alloc, &mut files, &at).err(), absent);
+    same_answer(rt, list(alloc, &mut files, &at), absent);
+    let answers = replace_and_list(alloc, &mut files, &at);
+    same_answers(rt, answers, (Some(ReplaceAnswer::Memory), absent));
+    holds(rt, files.absences == 3);
 }
 
 #[test]

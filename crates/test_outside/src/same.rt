@@ -10,3 +10,8 @@ pub fn holds(rt: &impl Abort, is_so: bool)
 {
     assert!(rt; is_so);
 }
+
+/// Stops unless these are the same bytes.
+pub fn same(rt: &impl Abort, got: &[u8], want: &[u8]) {
+    assert_eq!(rt; got, want);
+}

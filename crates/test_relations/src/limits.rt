@@ -147,6 +147,10 @@ fn related(alloc: Global, shape: Shape, count: u16) -> Result<Result<Relation, R
     Ok(Relation::make(alloc, &tree, &kernel))
 }
 
+fn same_count(rt: &impl Abort, got: usize, want: usize) {
+    assert_eq!(rt; got, want);
+}
+
 /// Checks the dependencies of 2,000 modules of a shape: of all together, of the first and of the
 /// last.
 fn expect_related(
@@ -158,10 +162,10 @@ fn expect_related(
     let Ok(relation) = related(alloc, shape, 2000)? else {
         panic!(rt; "refused");
     };
-    assert_eq!(rt; dependencies(&relation, 2000), all);
-    assert_eq!(rt; relation.closure(TreeIndex(0)).len(), first);
-    assert_eq!(rt; relation.closure(TreeIndex(1999)).len(), last);
-    assert_eq!(rt; relation.obstacles().len(), 0);
+    same_count(rt, dependencies(&relation, 2000), all);
+    same_count(rt, relation.closure(TreeIndex(0)).len(), first);
+    same_count(rt, relation.closure(TreeIndex(1999)).len(), last);
+    same_count(rt, relation.obstacles().len(), 0);
     Ok(())
 }
 
