@@ -64,7 +64,8 @@ static LOADS: TreeRow<'static> = TreeRow {
             "kmod: p: bad value of depth\n",
         ),
         (
-            "modprobe -d /r -S 6.1.0 --system-map /r/System.map --symvers /r/Module.symvers p depth=08",
+            "modprobe -d /r -S 6.1.0 --system-map /r/System.map --symvers /r/Module.symvers p \
+                depth=08",
             0,
             "insmod /r/lib/modules/6.1.0/kernel/p.ko depth=08\n\
          loaded p ffffffffc0000000 8192 \
@@ -72,7 +73,8 @@ static LOADS: TreeRow<'static> = TreeRow {
             "",
         ),
         (
-            "modprobe -d /r -S 6.1.0 --system-map /r/System.map --symvers /r/Module.symvers --params p",
+            "modprobe -d /r -S 6.1.0 --system-map /r/System.map --symvers /r/Module.symvers \
+                --params p",
             0,
             "insmod /r/lib/modules/6.1.0/kernel/p.ko\n\
          loaded p ffffffffc0000000 8192 \

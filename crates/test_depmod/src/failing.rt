@@ -264,7 +264,8 @@ static WRITES: [TreeRow<'static>; 5] = [
         rows: &[(
             PRINT,
             3,
-            "kernel/a.ko:\nkernel/b.ko: kernel/a.ko\n# Aliases extracted from modules themselves.\n",
+            "kernel/a.ko:\nkernel/b.ko: kernel/a.ko\n# Aliases extracted from modules \
+                themselves.\n",
             "kmod: output fault\n",
         )],
         ..PRINTED

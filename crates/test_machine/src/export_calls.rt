@@ -206,7 +206,8 @@ fn expect_kept(rt: &impl Abort, alloc: Global, table: &ExportTable, want: &str) 
 
 /// What a table has of the three names.
 static ALL_THREE: &str =
-    r#"(Some((Some(1), true, "NS", 32, Some("b"))), Some((None, false, "", 16, Some("b"))), Some((Some(286331153), false, "", 18446744071578845184, None)))"#;
+    "(Some((Some(1), true, \"NS\", 32, Some(\"b\"))), Some((None, false, \"\", 16, Some(\"b\"))), \
+        Some((Some(286331153), false, \"\", 18446744071578845184, None)))";
 
 /// The same without the exports of `b`.
 static ONLY_PRINTK: &str =

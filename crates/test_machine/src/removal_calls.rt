@@ -59,7 +59,8 @@ static REMOVALS: [(&[u8], bool, &str); 3] = [
     (
         b"b",
         false,
-        r#"Ok(List { elements: [Command { name: "b", command: "/bin/true" }, Rmmod { name: "a" }] })"#,
+        "Ok(List { elements: [Command { name: \"b\", command: \"/bin/true\" }, \
+            Rmmod { name: \"a\" }] })",
     ),
     (b"a", false, r#"Err(InUse { name: "a", user: "b" })"#),
 ];

@@ -59,8 +59,8 @@ fn found_at<'a>(rt: &impl Abort, founds: &'a [Found], place: usize) -> (u8, &'a 
 }
 
 /// What is found by an alias, by an install rule, and among the built-in modules.
-static FOUND: &str =
-    r#"((1, List { elements: ["b"] }), (4, List { elements: ["x"] }), (6, List { elements: ["built"] }))"#;
+static FOUND: &str = "((1, List { elements: [\"b\"] }), (4, List { elements: [\"x\"] }), \
+        (6, List { elements: [\"built\"] }))";
 
 /// Stops unless these are found.
 fn expect_found(rt: &impl Abort, alloc: Global, planner: &Planner<'_>) {

@@ -200,18 +200,22 @@ fn planned(
 static PLANS: [PlanRow; 4] = [
     PlanRow {
         rules: b"options a raw=0\n",
-        want: r#"Ok(List { elements: [Insert { name: "a", path: "kernel/a.ko", options: "raw=0" }, Insert { name: "b", path: "kernel/b.ko", options: "raw=1" }] })"#,
+        want: "Ok(List { elements: [Insert { name: \"a\", path: \"kernel/a.ko\", \
+            options: \"raw=0\" }, Insert { name: \"b\", path: \"kernel/b.ko\", \
+            options: \"raw=1\" }] })",
         ..B
     },
     PlanRow {
         loaded: b"a 8192 0 - Live 0x0\n",
         rules: b"options b depth=3\n",
-        want: r#"Ok(List { elements: [Insert { name: "b", path: "kernel/b.ko", options: "depth=3 raw=1" }] })"#,
+        want: "Ok(List { elements: [Insert { name: \"b\", path: \"kernel/b.ko\", \
+            options: \"depth=3 raw=1\" }] })",
         ..B
     },
     PlanRow {
         rules: b"install a /bin/true\n",
-        want: r#"Ok(List { elements: [Install { name: "a", command: "/bin/true" }, Insert { name: "b", path: "kernel/b.ko", options: "raw=1" }] })"#,
+        want: "Ok(List { elements: [Install { name: \"a\", command: \"/bin/true\" }, \
+            Insert { name: \"b\", path: \"kernel/b.ko\", options: \"raw=1\" }] })",
         ..B
     },
     PlanRow {

@@ -120,7 +120,8 @@ fn expect_rules(rt: &impl Abort, alloc: Global, rules: &RuleTable<'_>) {
 /// What a planner has: the loaded modules and the lines of modules.unmet, whether `built` and `a`
 /// are built in, what `b` stands for, and the places of the modules that its line names.
 static SOURCES: &str =
-    r#"((["b"], [Missing { path: "kernel/a.ko", symbol: "x" }]), (true, false), (2, List { elements: ["b"] }), Ok([0]))"#;
+    "(([\"b\"], [Missing { path: \"kernel/a.ko\", symbol: \"x\" }]), (true, false), \
+        (2, List { elements: [\"b\"] }), Ok([0]))";
 
 /// Stops unless a planner has that.
 fn expect_sources(rt: &impl Abort, alloc: Global, planner: &Planner<'_>) {

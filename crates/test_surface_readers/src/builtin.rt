@@ -15,7 +15,8 @@ static TTY_INDEX: &[u8] =
 
 /// Its fields.
 static FIELDS: &str =
-    r#"Ok(List { elements: [BuiltinField { module: "tty", key: "alias", value: "tty-*" }, BuiltinField { module: "tty", key: "license", value: "GPL" }] })"#;
+    "Ok(List { elements: [BuiltinField { module: \"tty\", key: \"alias\", value: \"tty-*\" }, \
+        BuiltinField { module: \"tty\", key: \"license\", value: \"GPL\" }] })";
 
 fn fields_are_read(rt: &impl Abort, alloc: Global) {
     shown(rt, alloc, builtin_fields(alloc, TTY), FIELDS);

@@ -182,7 +182,11 @@ fn all<L: Ledger>(alloc: Global, index: &Index, steps: &mut Steps<L>) -> Result<
 
 /// The pairs of the five keys.
 static PAIRS: &str =
-    r#"Ok(List { elements: [Pair { key: "ask", value: Value { priority: 0, text: "x" } }, Pair { key: "ate", value: Value { priority: 1, text: "x" } }, Pair { key: "on", value: Value { priority: 2, text: "x" } }, Pair { key: "once", value: Value { priority: 3, text: "x" } }, Pair { key: "one", value: Value { priority: 4, text: "x" } }] })"#;
+    "Ok(List { elements: [Pair { key: \"ask\", value: Value { priority: 0, text: \"x\" } }, \
+        Pair { key: \"ate\", value: Value { priority: 1, text: \"x\" } }, \
+        Pair { key: \"on\", value: Value { priority: 2, text: \"x\" } }, \
+        Pair { key: \"once\", value: Value { priority: 3, text: \"x\" } }, \
+        Pair { key: \"one\", value: Value { priority: 4, text: \"x\" } }] })";
 
 /// Looks up keys of five, one by one and all.
 fn look_up_keys<L: Ledger>(rt: &impl Abort, alloc: Global, steps: &mut Steps<L>) {
@@ -204,7 +208,8 @@ static TWO_PATTERNS: [(&[u8], &[u8]); 2] = [(b"pci_x:v0000[!a-f]d*", b"x"), (b"p
 static MATCHED: [(&[u8], &str); 3] = [
     (
         b"pci_x:v00001d99",
-        r#"Ok(List { elements: [Value { priority: 0, text: "x" }, Value { priority: 1, text: "y" }] })"#,
+        "Ok(List { elements: [Value { priority: 0, text: \"x\" }, Value { priority: 1, \
+            text: \"y\" }] })",
     ),
     (
         b"pci_x:v0000ad99",

@@ -38,7 +38,8 @@ fn sections_of(rt: &impl Abort, alloc: Global, length: usize) -> Result<Sections
 
 /// The second section of the small object.
 static MODINFO: &str =
-    r#"Section { name: ".modinfo", kind: 1, flags: 2, offset: 64, size: 12, link: 0, info: 0, align: 1, kept: false }"#;
+    "Section { name: \".modinfo\", kind: 1, flags: 2, offset: 64, size: 12, link: 0, info: 0, \
+        align: 1, kept: false }";
 
 /// Stops unless these are the sections of the small object.
 fn expect_license(rt: &impl Abort, alloc: Global, sections: &Sections) {
@@ -130,7 +131,8 @@ fn read_object(rt: &impl Abort, alloc: Global, kind: u32) -> Result<Object, Obje
 
 /// The section of the words of that object.
 static DATA: &str =
-    r#"Section { name: ".data", kind: 1, flags: 3, offset: 64, size: 8, link: 0, info: 0, align: 8, kept: true }"#;
+    "Section { name: \".data\", kind: 1, flags: 3, offset: 64, size: 8, link: 0, info: 0, \
+        align: 8, kept: true }";
 
 /// Its symbol, which isn't defined.
 static SYMBOL: &str = r#"Symbol { name: "fa", binding: 1, section: 0, value: 0 }"#;
@@ -204,7 +206,10 @@ fn expect_module(rt: &impl Abort, alloc: Global, at: &[u8], bytes: Blob, want: &
 
 /// The facts of its module.
 static VERSION_OF_FA: &str =
-    r#"(Facts { path: "kernel/b.ko", name: "b", exports: List { elements: [] }, needs: List { elements: [Need { name: "fa", symbol: 1, weak: false, crc: Some(17) }] }, aliases: List { elements: [] }, softdeps: List { elements: [] }, free: false, imports: List { elements: [] } }, 1)"#;
+    "(Facts { path: \"kernel/b.ko\", name: \"b\", exports: List { elements: [] }, \
+        needs: List { elements: [Need { name: \"fa\", symbol: 1, weak: false, crc: Some(17) }] }, \
+        aliases: List { elements: [] }, softdeps: List { elements: [] }, \
+        free: false, imports: List { elements: [] } }, 1)";
 
 fn an_object_has_more(rt: &impl Abort, alloc: Global) {
     let bytes = object_with_version(rt, alloc);
@@ -248,7 +253,10 @@ fn an_unknown_relocation_is_reported(rt: &impl Abort, alloc: Global) {
 
 /// The facts of a module that exports nothing, needs only `fa` and isn't free.
 static FACTS: &str =
-    r#"(Facts { path: "kernel/b-c.ko", name: "b_c", exports: List { elements: [] }, needs: List { elements: [Need { name: "fa", symbol: 1, weak: false, crc: None }] }, aliases: List { elements: [] }, softdeps: List { elements: [] }, free: false, imports: List { elements: [] } }, 1)"#;
+    "(Facts { path: \"kernel/b-c.ko\", name: \"b_c\", exports: List { elements: [] }, \
+        needs: List { elements: [Need { name: \"fa\", symbol: 1, weak: false, crc: None }] }, \
+        aliases: List { elements: [] }, softdeps: List { elements: [] }, \
+        free: false, imports: List { elements: [] } }, 1)";
 
 fn a_module_has_its_facts(rt: &impl Abort, alloc: Global) {
     let bytes = object_that_needs_fa(rt, alloc, 1);
@@ -282,22 +290,35 @@ static MODULES: [(SheetRow, MoreRow, &str); 4] = [
     (
         GIVES_ALONE,
         NO_MORE,
-        r#"(Facts { path: "kernel/a.ko", name: "a", exports: List { elements: [Export { name: "fa", symbol: 2, crc: None, gpl: false, space: "" }] }, needs: List { elements: [] }, aliases: List { elements: [] }, softdeps: List { elements: [] }, free: false, imports: List { elements: [] } }, 0)"#,
+        "(Facts { path: \"kernel/a.ko\", name: \"a\", \
+            exports: List { elements: [Export { name: \"fa\", symbol: 2, crc: None, gpl: false, \
+            space: \"\" }] }, needs: List { elements: [] }, aliases: List { elements: [] }, \
+            softdeps: List { elements: [] }, free: false, imports: List { elements: [] } }, 0)",
     ),
     (
         GIVES_ALONE,
         GPL_ONLY,
-        r#"(Facts { path: "kernel/a.ko", name: "a", exports: List { elements: [Export { name: "fa", symbol: 2, crc: None, gpl: true, space: "" }] }, needs: List { elements: [] }, aliases: List { elements: [] }, softdeps: List { elements: [] }, free: false, imports: List { elements: [] } }, 0)"#,
+        "(Facts { path: \"kernel/a.ko\", name: \"a\", \
+            exports: List { elements: [Export { name: \"fa\", symbol: 2, crc: None, gpl: true, \
+            space: \"\" }] }, needs: List { elements: [] }, aliases: List { elements: [] }, \
+            softdeps: List { elements: [] }, free: false, imports: List { elements: [] } }, 0)",
     ),
     (
         GIVES_ALONE,
         IN_SPACE,
-        r#"(Facts { path: "kernel/a.ko", name: "a", exports: List { elements: [Export { name: "fa", symbol: 3, crc: None, gpl: false, space: "NS" }] }, needs: List { elements: [] }, aliases: List { elements: [] }, softdeps: List { elements: [] }, free: false, imports: List { elements: [] } }, 0)"#,
+        "(Facts { path: \"kernel/a.ko\", name: \"a\", \
+            exports: List { elements: [Export { name: \"fa\", symbol: 3, crc: None, gpl: false, \
+            space: \"NS\" }] }, needs: List { elements: [] }, aliases: List { elements: [] }, \
+            softdeps: List { elements: [] }, free: false, imports: List { elements: [] } }, 0)",
     ),
     (
         NEEDS_LONG,
         LONG_VERSION,
-        r#"(Facts { path: "kernel/a.ko", name: "a", exports: List { elements: [] }, needs: List { elements: [Need { name: "xxxxxxxxxxxxxxxxxxxxxxxxxxxxxxxxxxxxxxxxxxxxxxxxxxxxxxxxxxxx", symbol: 1, weak: false, crc: Some(17) }] }, aliases: List { elements: [] }, softdeps: List { elements: [] }, free: false, imports: List { elements: [] } }, 0)"#,
+        "(Facts { path: \"kernel/a.ko\", name: \"a\", exports: List { elements: [] }, \
+            needs: List { elements: [Need { name: \
+            \"xxxxxxxxxxxxxxxxxxxxxxxxxxxxxxxxxxxxxxxxxxxxxxxxxxxxxxxxxxxx\", symbol: 1, \
+            weak: false, crc: Some(17) }] }, aliases: List { elements: [] }, \
+            softdeps: List { elements: [] }, free: false, imports: List { elements: [] } }, 0)",
     ),
 ];
 

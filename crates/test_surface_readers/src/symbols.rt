@@ -67,8 +67,8 @@ static NEEDS: &str =
     r#"Ok(List { elements: [Need { name: "printk", symbol: 5, weak: false, crc: Some(34) }] })"#;
 
 /// Its export.
-static EXPORTS: &str =
-    r#"Ok(List { elements: [Export { name: "fa", symbol: 4, crc: Some(17), gpl: true, space: "NS" }] })"#;
+static EXPORTS: &str = "Ok(List { elements: [Export { name: \"fa\", symbol: 4, crc: Some(17), \
+        gpl: true, space: \"NS\" }] })";
 
 /// Stops unless these are the needs and the exports of an object.
 fn expect_symbols(rt: &impl Abort, alloc: Global, object: &ObjectView<'_>) {

@@ -50,12 +50,12 @@ pub(crate) fn usual_kernel(rt: &impl Abort, alloc: Global) -> Kernel {
 }
 
 /// What that kernel exports. All modules may use it.
-static EXPORTS: &str =
-    r#"List { elements: [KernelExport { name: "printk", crc: Some(286331153), address: None, gpl: false, space: "" }] }"#;
+static EXPORTS: &str = "List { elements: [KernelExport { name: \"printk\", crc: Some(286331153), \
+        address: None, gpl: false, space: \"\" }] }";
 
 /// The same with the address.
-static PLACED: &str =
-    r#"List { elements: [KernelExport { name: "printk", crc: Some(286331153), address: Some(18446744071578845184), gpl: false, space: "" }] }"#;
+static PLACED: &str = "List { elements: [KernelExport { name: \"printk\", crc: Some(286331153), \
+        address: Some(18446744071578845184), gpl: false, space: \"\" }] }";
 
 fn kernels_are_read(rt: &impl Abort, alloc: Global) {
     let mut kernel = usual_kernel(rt, alloc);
@@ -68,8 +68,8 @@ fn kernels_are_read(rt: &impl Abort, alloc: Global) {
 static KSYMTAB: &[u8] = b"ffffffff81000000 T printk\nffffffff82000000 r __ksymtab_printk\n";
 
 /// Whether it is known what its kernel exports, and that.
-static MAPPED: &str =
-    r#"(true, List { elements: [KernelExport { name: "printk", crc: None, address: Some(18446744071578845184), gpl: false, space: "" }] })"#;
+static MAPPED: &str = "(true, List { elements: [KernelExport { name: \"printk\", crc: None, \
+        address: Some(18446744071578845184), gpl: false, space: \"\" }] })";
 
 fn kernels_are_read_from_maps(rt: &impl Abort, alloc: Global) {
     let kernel = mapped(rt, alloc, KSYMTAB).expect(rt, "a kernel");

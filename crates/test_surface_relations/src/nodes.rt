@@ -50,7 +50,8 @@ fn nodes_are_written(rt: &impl Abort, alloc: Global) {
         r##"Ok("# Device nodes to trigger on-demand module loading.\nfuse fuse c10:229\n")"##;
     shown(rt, alloc, nodes_text(alloc, &list), want);
     let want =
-        r#"List { elements: [Node { module: "fuse", device: "fuse", block: false, major: 10, minor: 229 }] }"#;
+        "List { elements: [Node { module: \"fuse\", device: \"fuse\", block: false, major: 10, \
+            minor: 229 }] }";
     shown(rt, alloc, list, want);
 }
 
@@ -58,7 +59,8 @@ fn nodes_are_written(rt: &impl Abort, alloc: Global) {
 static TEXTS: [(&[u8], &str); 2] = [
     (
         b"# Device nodes to trigger on-demand module loading.\nfuse fuse c10:229\n",
-        r#"Ok(List { elements: [Node { module: "fuse", device: "fuse", block: false, major: 10, minor: 229 }] })"#,
+        "Ok(List { elements: [Node { module: \"fuse\", device: \"fuse\", block: false, major: 10, \
+            minor: 229 }] })",
     ),
     (
         b"# x\nfuse fuse c10\n",

@@ -267,7 +267,8 @@ fn expect_files(rt: &impl Abort, alloc: Global, files: &OutputFiles) {
 
 /// The texts of three of the files: modules.dep, modules.unmet and modules.symbols.
 static TEXTS: &str =
-    r##"("kernel/a.ko:\nkernel/b.ko: kernel/a.ko\n", "", "# Aliases for symbols, used by symbol_request().\nalias symbol:fa a\nalias symbol:fb b\n")"##;
+    "(\"kernel/a.ko:\\nkernel/b.ko: kernel/a.ko\\n\", \"\", \"# Aliases for symbols, \
+        used by symbol_request().\\nalias symbol:fa a\\nalias symbol:fb b\\n\")";
 
 #[test]
 fn relations_are_called(rt: HostRuntime) {

@@ -82,8 +82,8 @@ static CONFIGURATION: &[u8] =
     b"# a comment \\\nthat goes on\n\n  alias a \\\n b\t\r\noptions x y\\";
 
 /// Its joined lines.
-static LINES: &str =
-    r#"Ok(List { elements: [Line { number: 4, text: "alias a  b" }, Line { number: 6, text: "options x y" }] })"#;
+static LINES: &str = "Ok(List { elements: [Line { number: 4, text: \"alias a  b\" }, \
+        Line { number: 6, text: \"options x y\" }] })";
 
 fn lines_of_configuration_are_joined(rt: &impl Abort, alloc: Global) {
     holds(rt, CONFIGURATION.len() <= 67_108_864);

@@ -111,7 +111,8 @@ fn files_in_memory_are_read_and_replaced(rt: &impl Abort, alloc: Global) {
 
 /// The answers of listings: those of a folder, of all below it, and of one that isn't there.
 static LISTED: &str =
-    r#"(Ok(List { elements: ["a.conf", "b.conf"] }), Ok(List { elements: ["a.conf", "a.ko", "b.conf", "f/c.conf"] }), Err(Absent))"#;
+    "(Ok(List { elements: [\"a.conf\", \"b.conf\"] }), Ok(List { elements: [\"a.conf\", \"a.ko\", \
+        \"b.conf\", \"f/c.conf\"] }), Err(Absent))";
 
 fn folders_in_memory_are_listed(rt: &impl Abort, alloc: Global) {
     let mut files = four_files(rt, alloc);

@@ -12,7 +12,9 @@ use std::process::Abort;
 
 /// What a depmod of a tree over a kernel's table asks for.
 static DEPMOD: &str =
-    r#"Ok(Some(DepmodWords { dry_run: false, errsyms: false, extra: false, basedir: "/r", outdir: "/r", config: None, filesyms: None, symvers: Some("/r/Module.symvers"), version: "6.1.0" }))"#;
+    "Ok(Some(DepmodWords { dry_run: false, errsyms: false, extra: false, basedir: \"/r\", \
+        outdir: \"/r\", config: None, filesyms: None, symvers: Some(\"/r/Module.symvers\"), \
+        version: \"6.1.0\" }))";
 
 fn words_of_depmod_are_read(rt: &impl Abort, alloc: Global) {
     let words = words(rt, alloc, "-b /r -E /r/Module.symvers 6.1.0");
@@ -22,7 +24,10 @@ fn words_of_depmod_are_read(rt: &impl Abort, alloc: Global) {
 
 /// What a removal asks for.
 static MODPROBE: &str =
-    r#"Ok(Some(ModprobeWords { mode: Remove { dry_run: true }, all: false, use_blacklist: false, ignore_install: false, dirname: "/", version: "6.1.0", config: None, loaded: None, system_map: Some("m"), symvers: None, region_base: 18446744072635809792, region_size: 1056964608, image: None, params: false, words: List { elements: ["b"] } }))"#;
+    "Ok(Some(ModprobeWords { mode: Remove { dry_run: true }, all: false, use_blacklist: false, \
+        ignore_install: false, dirname: \"/\", version: \"6.1.0\", config: None, loaded: None, \
+        system_map: Some(\"m\"), symvers: None, region_base: 18446744072635809792, \
+        region_size: 1056964608, image: None, params: false, words: List { elements: [\"b\"] } }))";
 
 fn words_of_modprobe_are_read(rt: &impl Abort, alloc: Global) {
     let words = words(rt, alloc, "-r -n -S 6.1.0 --system-map m b");
@@ -32,7 +37,8 @@ fn words_of_modprobe_are_read(rt: &impl Abort, alloc: Global) {
 
 /// What one field of a file asks for.
 static MODINFO: &str =
-    r#"Ok(Some(ModinfoWords { field: Some("license"), zero: false, version: None, basedir: "/", words: List { elements: ["/m/a.ko"] } }))"#;
+    "Ok(Some(ModinfoWords { field: Some(\"license\"), zero: false, version: None, basedir: \"/\", \
+        words: List { elements: [\"/m/a.ko\"] } }))";
 
 fn words_of_modinfo_are_read(rt: &impl Abort, alloc: Global) {
     let words = words(rt, alloc, "-F license /m/a.ko");

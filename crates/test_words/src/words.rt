@@ -12,27 +12,37 @@ use std::process::Abort;
 static DEPMOD: [(&str, &str); 6] = [
     (
         "6.1.0",
-        r#"DepmodWords { dry_run: false, errsyms: false, extra: false, basedir: "/", outdir: "/", config: None, filesyms: None, symvers: None, version: "6.1.0" }"#,
+        "DepmodWords { dry_run: false, errsyms: false, extra: false, basedir: \"/\", \
+            outdir: \"/\", config: None, filesyms: None, symvers: None, version: \"6.1.0\" }",
     ),
     (
         "-b /r -E /r/Module.symvers 6.1.0",
-        r#"DepmodWords { dry_run: false, errsyms: false, extra: false, basedir: "/r", outdir: "/r", config: None, filesyms: None, symvers: Some("/r/Module.symvers"), version: "6.1.0" }"#,
+        "DepmodWords { dry_run: false, errsyms: false, extra: false, basedir: \"/r\", \
+            outdir: \"/r\", config: None, filesyms: None, symvers: Some(\"/r/Module.symvers\"), \
+            version: \"6.1.0\" }",
     ),
     (
         "-aneb/r 6.1.0 -o /out -C=/c.conf",
-        r#"DepmodWords { dry_run: true, errsyms: true, extra: false, basedir: "/r", outdir: "/out", config: Some("/c.conf"), filesyms: None, symvers: None, version: "6.1.0" }"#,
+        "DepmodWords { dry_run: true, errsyms: true, extra: false, basedir: \"/r\", \
+            outdir: \"/out\", config: Some(\"/c.conf\"), filesyms: None, symvers: None, \
+            version: \"6.1.0\" }",
     ),
     (
         "--all --dry-run --errsyms --basedir=/r --filesyms m 6.1.0",
-        r#"DepmodWords { dry_run: true, errsyms: true, extra: false, basedir: "/r", outdir: "/r", config: None, filesyms: Some("m"), symvers: None, version: "6.1.0" }"#,
+        "DepmodWords { dry_run: true, errsyms: true, extra: false, basedir: \"/r\", \
+            outdir: \"/r\", config: None, filesyms: Some(\"m\"), symvers: None, \
+            version: \"6.1.0\" }",
     ),
     (
         "--outdir - --config d --symvers s -- -6",
-        r#"DepmodWords { dry_run: false, errsyms: false, extra: false, basedir: "/", outdir: "-", config: Some("d"), filesyms: None, symvers: Some("s"), version: "-6" }"#,
+        "DepmodWords { dry_run: false, errsyms: false, extra: false, basedir: \"/\", \
+            outdir: \"-\", config: Some(\"d\"), filesyms: None, symvers: Some(\"s\"), \
+            version: \"-6\" }",
     ),
     (
         "--extra -n 6.1.0",
-        r#"DepmodWords { dry_run: true, errsyms: false, extra: true, basedir: "/", outdir: "/", config: None, filesyms: None, symvers: None, version: "6.1.0" }"#,
+        "DepmodWords { dry_run: true, errsyms: false, extra: true, basedir: \"/\", outdir: \"/\", \
+            config: None, filesyms: None, symvers: None, version: \"6.1.0\" }",
     ),
 ];
 
@@ -63,57 +73,104 @@ static NO_DEPMOD: [&str; 19] = [
 static MODPROBE: [(&str, &str); 13] = [
     (
         "-n b -S 6.1.0",
-        r#"ModprobeWords { mode: DryRun, all: false, use_blacklist: false, ignore_install: false, dirname: "/", version: "6.1.0", config: None, loaded: None, system_map: None, symvers: None, region_base: 18446744072635809792, region_size: 1056964608, image: None, params: false, words: List { elements: ["b"] } }"#,
+        "ModprobeWords { mode: DryRun, all: false, use_blacklist: false, ignore_install: false, \
+            dirname: \"/\", version: \"6.1.0\", config: None, loaded: None, system_map: None, \
+            symvers: None, region_base: 18446744072635809792, region_size: 1056964608, \
+            image: None, params: false, words: List { elements: [\"b\"] } }",
     ),
     (
         "-d /r -S 6.1.0 -D -i a",
-        r#"ModprobeWords { mode: ShowDepends, all: false, use_blacklist: false, ignore_install: true, dirname: "/r", version: "6.1.0", config: None, loaded: None, system_map: None, symvers: None, region_base: 18446744072635809792, region_size: 1056964608, image: None, params: false, words: List { elements: ["a"] } }"#,
+        "ModprobeWords { mode: ShowDepends, all: false, use_blacklist: false, \
+            ignore_install: true, dirname: \"/r\", version: \"6.1.0\", config: None, loaded: None, \
+            system_map: None, symvers: None, region_base: 18446744072635809792, \
+            region_size: 1056964608, image: None, params: false, \
+            words: List { elements: [\"a\"] } }",
     ),
     (
         "-R -b -S6.1.0 symbol:fa",
-        r#"ModprobeWords { mode: ResolveAlias, all: false, use_blacklist: true, ignore_install: false, dirname: "/", version: "6.1.0", config: None, loaded: None, system_map: None, symvers: None, region_base: 18446744072635809792, region_size: 1056964608, image: None, params: false, words: List { elements: ["symbol:fa"] } }"#,
+        "ModprobeWords { mode: ResolveAlias, all: false, use_blacklist: true, \
+            ignore_install: false, dirname: \"/\", version: \"6.1.0\", config: None, loaded: None, \
+            system_map: None, symvers: None, region_base: 18446744072635809792, \
+            region_size: 1056964608, image: None, params: false, \
+            words: List { elements: [\"symbol:fa\"] } }",
     ),
     (
         "-S 6.1.0 --system-map m b depth=3",
-        r#"ModprobeWords { mode: Load, all: false, use_blacklist: false, ignore_install: false, dirname: "/", version: "6.1.0", config: None, loaded: None, system_map: Some("m"), symvers: None, region_base: 18446744072635809792, region_size: 1056964608, image: None, params: false, words: List { elements: ["b", "depth=3"] } }"#,
+        "ModprobeWords { mode: Load, all: false, use_blacklist: false, ignore_install: false, \
+            dirname: \"/\", version: \"6.1.0\", config: None, loaded: None, \
+            system_map: Some(\"m\"), symvers: None, region_base: 18446744072635809792, \
+            region_size: 1056964608, image: None, params: false, words: List { elements: [\"b\", \
+            \"depth=3\"] } }",
     ),
     (
         "-abin -S=6.1.0 b c",
-        r#"ModprobeWords { mode: DryRun, all: true, use_blacklist: true, ignore_install: true, dirname: "/", version: "6.1.0", config: None, loaded: None, system_map: None, symvers: None, region_base: 18446744072635809792, region_size: 1056964608, image: None, params: false, words: List { elements: ["b", "c"] } }"#,
+        "ModprobeWords { mode: DryRun, all: true, use_blacklist: true, ignore_install: true, \
+            dirname: \"/\", version: \"6.1.0\", config: None, loaded: None, system_map: None, \
+            symvers: None, region_base: 18446744072635809792, region_size: 1056964608, \
+            image: None, params: false, words: List { elements: [\"b\", \"c\"] } }",
     ),
     (
         "--all --use-blacklist --ignore-install --show-depends --dirname=/r --set-version=6.1.0 \
          --config=c --loaded=l --symvers=s --image=i b",
-        r#"ModprobeWords { mode: ShowDepends, all: true, use_blacklist: true, ignore_install: true, dirname: "/r", version: "6.1.0", config: Some("c"), loaded: Some("l"), system_map: None, symvers: Some("s"), region_base: 18446744072635809792, region_size: 1056964608, image: Some("i"), params: false, words: List { elements: ["b"] } }"#,
+        "ModprobeWords { mode: ShowDepends, all: true, use_blacklist: true, ignore_install: true, \
+            dirname: \"/r\", version: \"6.1.0\", config: Some(\"c\"), loaded: Some(\"l\"), \
+            system_map: None, symvers: Some(\"s\"), region_base: 18446744072635809792, \
+            region_size: 1056964608, image: Some(\"i\"), params: false, \
+            words: List { elements: [\"b\"] } }",
     ),
     (
         "-d /r -S 6.1.0 --system-map /r/System.map --symvers /r/Module.symvers \
          --region 0xffffffffc0000000:0x3000 b",
-        r#"ModprobeWords { mode: Load, all: false, use_blacklist: false, ignore_install: false, dirname: "/r", version: "6.1.0", config: None, loaded: None, system_map: Some("/r/System.map"), symvers: Some("/r/Module.symvers"), region_base: 18446744072635809792, region_size: 12288, image: None, params: false, words: List { elements: ["b"] } }"#,
+        "ModprobeWords { mode: Load, all: false, use_blacklist: false, ignore_install: false, \
+            dirname: \"/r\", version: \"6.1.0\", config: None, loaded: None, \
+            system_map: Some(\"/r/System.map\"), symvers: Some(\"/r/Module.symvers\"), \
+            region_base: 18446744072635809792, region_size: 12288, image: None, params: false, \
+            words: List { elements: [\"b\"] } }",
     ),
     (
         "-n -S 6.1.0 --region=0xFFFFFFFFFFFFF000:0x1000 b",
-        r#"ModprobeWords { mode: DryRun, all: false, use_blacklist: false, ignore_install: false, dirname: "/", version: "6.1.0", config: None, loaded: None, system_map: None, symvers: None, region_base: 18446744073709547520, region_size: 4096, image: None, params: false, words: List { elements: ["b"] } }"#,
+        "ModprobeWords { mode: DryRun, all: false, use_blacklist: false, ignore_install: false, \
+            dirname: \"/\", version: \"6.1.0\", config: None, loaded: None, system_map: None, \
+            symvers: None, region_base: 18446744073709547520, region_size: 4096, image: None, \
+            params: false, words: List { elements: [\"b\"] } }",
     ),
     (
         "--dry-run -S 6.1.0 --region 0x0:0x0000000000001000 -- -r -C",
-        r#"ModprobeWords { mode: DryRun, all: false, use_blacklist: false, ignore_install: false, dirname: "/", version: "6.1.0", config: None, loaded: None, system_map: None, symvers: None, region_base: 0, region_size: 4096, image: None, params: false, words: List { elements: ["-r", "-C"] } }"#,
+        "ModprobeWords { mode: DryRun, all: false, use_blacklist: false, ignore_install: false, \
+            dirname: \"/\", version: \"6.1.0\", config: None, loaded: None, system_map: None, \
+            symvers: None, region_base: 0, region_size: 4096, image: None, params: false, \
+            words: List { elements: [\"-r\", \"-C\"] } }",
     ),
     (
         "-S 6.1.0 --system-map m --params p depth=3 raw",
-        r#"ModprobeWords { mode: Load, all: false, use_blacklist: false, ignore_install: false, dirname: "/", version: "6.1.0", config: None, loaded: None, system_map: Some("m"), symvers: None, region_base: 18446744072635809792, region_size: 1056964608, image: None, params: true, words: List { elements: ["p", "depth=3", "raw"] } }"#,
+        "ModprobeWords { mode: Load, all: false, use_blacklist: false, ignore_install: false, \
+            dirname: \"/\", version: \"6.1.0\", config: None, loaded: None, \
+            system_map: Some(\"m\"), symvers: None, region_base: 18446744072635809792, \
+            region_size: 1056964608, image: None, params: true, words: List { elements: [\"p\", \
+            \"depth=3\", \"raw\"] } }",
     ),
     (
         "--params -S 6.1.0 --system-map m --image /i p",
-        r#"ModprobeWords { mode: Load, all: false, use_blacklist: false, ignore_install: false, dirname: "/", version: "6.1.0", config: None, loaded: None, system_map: Some("m"), symvers: None, region_base: 18446744072635809792, region_size: 1056964608, image: Some("/i"), params: true, words: List { elements: ["p"] } }"#,
+        "ModprobeWords { mode: Load, all: false, use_blacklist: false, ignore_install: false, \
+            dirname: \"/\", version: \"6.1.0\", config: None, loaded: None, \
+            system_map: Some(\"m\"), symvers: None, region_base: 18446744072635809792, \
+            region_size: 1056964608, image: Some(\"/i\"), params: true, \
+            words: List { elements: [\"p\"] } }",
     ),
     (
         "-r -S 6.1.0 --system-map m --loaded /l a b",
-        r#"ModprobeWords { mode: Remove { dry_run: false }, all: false, use_blacklist: false, ignore_install: false, dirname: "/", version: "6.1.0", config: None, loaded: Some("/l"), system_map: Some("m"), symvers: None, region_base: 18446744072635809792, region_size: 1056964608, image: None, params: false, words: List { elements: ["a", "b"] } }"#,
+        "ModprobeWords { mode: Remove { dry_run: false }, all: false, use_blacklist: false, \
+            ignore_install: false, dirname: \"/\", version: \"6.1.0\", config: None, \
+            loaded: Some(\"/l\"), system_map: Some(\"m\"), symvers: None, \
+            region_base: 18446744072635809792, region_size: 1056964608, image: None, \
+            params: false, words: List { elements: [\"a\", \"b\"] } }",
     ),
     (
         "--remove -abin -d /r --symvers s --region 0x0:0x1000 -S 6.1.0 --system-map m b",
-        r#"ModprobeWords { mode: Remove { dry_run: true }, all: true, use_blacklist: true, ignore_install: true, dirname: "/r", version: "6.1.0", config: None, loaded: None, system_map: Some("m"), symvers: Some("s"), region_base: 0, region_size: 4096, image: None, params: false, words: List { elements: ["b"] } }"#,
+        "ModprobeWords { mode: Remove { dry_run: true }, all: true, use_blacklist: true, \
+            ignore_install: true, dirname: \"/r\", version: \"6.1.0\", config: None, loaded: None, \
+            system_map: Some(\"m\"), symvers: Some(\"s\"), region_base: 0, region_size: 4096, \
+            image: None, params: false, words: List { elements: [\"b\"] } }",
     ),
 ];
 
@@ -162,59 +219,73 @@ static NO_MODPROBE: [&str; 37] = [
 static MODINFO: [(&str, &str); 14] = [
     (
         "-F license /m/a.ko",
-        r#"ModinfoWords { field: Some("license"), zero: false, version: None, basedir: "/", words: List { elements: ["/m/a.ko"] } }"#,
+        "ModinfoWords { field: Some(\"license\"), zero: false, version: None, basedir: \"/\", \
+            words: List { elements: [\"/m/a.ko\"] } }",
     ),
     (
         "-Flicense /m/a.ko",
-        r#"ModinfoWords { field: Some("license"), zero: false, version: None, basedir: "/", words: List { elements: ["/m/a.ko"] } }"#,
+        "ModinfoWords { field: Some(\"license\"), zero: false, version: None, basedir: \"/\", \
+            words: List { elements: [\"/m/a.ko\"] } }",
     ),
     (
         "-F=license /m/a.ko",
-        r#"ModinfoWords { field: Some("license"), zero: false, version: None, basedir: "/", words: List { elements: ["/m/a.ko"] } }"#,
+        "ModinfoWords { field: Some(\"license\"), zero: false, version: None, basedir: \"/\", \
+            words: List { elements: [\"/m/a.ko\"] } }",
     ),
     (
         "/m/a.ko --field=license",
-        r#"ModinfoWords { field: Some("license"), zero: false, version: None, basedir: "/", words: List { elements: ["/m/a.ko"] } }"#,
+        "ModinfoWords { field: Some(\"license\"), zero: false, version: None, basedir: \"/\", \
+            words: List { elements: [\"/m/a.ko\"] } }",
     ),
     (
         "-- /m/a.ko",
-        r#"ModinfoWords { field: None, zero: false, version: None, basedir: "/", words: List { elements: ["/m/a.ko"] } }"#,
+        "ModinfoWords { field: None, zero: false, version: None, basedir: \"/\", \
+            words: List { elements: [\"/m/a.ko\"] } }",
     ),
     (
         "-- -F -n",
-        r#"ModinfoWords { field: None, zero: false, version: None, basedir: "/", words: List { elements: ["-F", "-n"] } }"#,
+        "ModinfoWords { field: None, zero: false, version: None, basedir: \"/\", \
+            words: List { elements: [\"-F\", \"-n\"] } }",
     ),
     (
         "a -n b -0 -",
-        r#"ModinfoWords { field: Some("filename"), zero: true, version: None, basedir: "/", words: List { elements: ["a", "b", "-"] } }"#,
+        "ModinfoWords { field: Some(\"filename\"), zero: true, version: None, basedir: \"/\", \
+            words: List { elements: [\"a\", \"b\", \"-\"] } }",
     ),
     (
         "-p0 a",
-        r#"ModinfoWords { field: Some("parm"), zero: true, version: None, basedir: "/", words: List { elements: ["a"] } }"#,
+        "ModinfoWords { field: Some(\"parm\"), zero: true, version: None, basedir: \"/\", \
+            words: List { elements: [\"a\"] } }",
     ),
     (
         "-0Fparm a",
-        r#"ModinfoWords { field: Some("parm"), zero: true, version: None, basedir: "/", words: List { elements: ["a"] } }"#,
+        "ModinfoWords { field: Some(\"parm\"), zero: true, version: None, basedir: \"/\", \
+            words: List { elements: [\"a\"] } }",
     ),
     (
         "-F - a",
-        r#"ModinfoWords { field: Some("-"), zero: false, version: None, basedir: "/", words: List { elements: ["a"] } }"#,
+        "ModinfoWords { field: Some(\"-\"), zero: false, version: None, basedir: \"/\", \
+            words: List { elements: [\"a\"] } }",
     ),
     (
         "-F=-x a",
-        r#"ModinfoWords { field: Some("-x"), zero: false, version: None, basedir: "/", words: List { elements: ["a"] } }"#,
+        "ModinfoWords { field: Some(\"-x\"), zero: false, version: None, basedir: \"/\", \
+            words: List { elements: [\"a\"] } }",
     ),
     (
         "-l -k 6.1.0 -b /r no-such",
-        r#"ModinfoWords { field: Some("license"), zero: false, version: Some("6.1.0"), basedir: "/r", words: List { elements: ["no-such"] } }"#,
+        "ModinfoWords { field: Some(\"license\"), zero: false, version: Some(\"6.1.0\"), \
+            basedir: \"/r\", words: List { elements: [\"no-such\"] } }",
     ),
     (
         "--author --set-version=6 a",
-        r#"ModinfoWords { field: Some("author"), zero: false, version: Some("6"), basedir: "/", words: List { elements: ["a"] } }"#,
+        "ModinfoWords { field: Some(\"author\"), zero: false, version: Some(\"6\"), \
+            basedir: \"/\", words: List { elements: [\"a\"] } }",
     ),
     (
         "--null --description a",
-        r#"ModinfoWords { field: Some("description"), zero: true, version: None, basedir: "/", words: List { elements: ["a"] } }"#,
+        "ModinfoWords { field: Some(\"description\"), zero: true, version: None, basedir: \"/\", \
+            words: List { elements: [\"a\"] } }",
     ),
 ];
 
