@@ -103,7 +103,7 @@ impl KeyMap {
         ensures rises { OnOk result (Rises (map.entries self.now)) }
         ensures sound { OnOk result (AllByRecursion IsStorableEntry (map.entries self.now)) }
     {
-        let mut entries = Vec::new(alloc);
+        let mut entries = Vec::with_capacity(alloc, self.lists.len())?;
         for (key, list) in &self.lists {
             entries.push(KeyEntry {
                 key: key.as_bytes(),

@@ -93,7 +93,8 @@ fn read_exports(
     requires { HasTables tables.now object.now }
     ensures { IfOk result (λ exports. exports ≡ exports_of object.now) }
 {
-    let mut exports = Exports::new(alloc);
+    // The names of exports differ in a sound module, so the list doesn't grow.
+    let mut exports = Exports::from_vec(Vec::with_capacity(alloc, tables.exports.len())?);
     let mut names = NAME_LIMIT;
     let mut spaces = NAME_LIMIT;
     let mut searches = SEARCH_LIMIT;

@@ -1,7 +1,7 @@
 // The names that symbols state in a role, each with the first symbol that states it.
 
 ghost use Rattle.std.specs.Prelude.{◌≡◌, ◌<◌, ◌+◌, ◌-◌, ◌^◌, nat_eq, ℕ, List, [], ◌∷◌, ◌++◌};
-ghost use Rattle.std.specs.Prelude.{Option, OnOk, option_copied};
+ghost use Rattle.std.specs.Prelude.{Option, OnOk, length, option_copied};
 ghost use Rattle.std.specs.Cmp.Lexicographic.{bytes_decides, pointwise, nat_list_eq_equiv};
 ghost use Rattle.std.specs.Cmp.{partial_equiv_from_equiv, on_per, on_equiv};
 ghost use Rattle.std.proofs.Common.{ap};
@@ -108,6 +108,13 @@ impl<'a> StatedNames<'a> {
         }
         self.count += 1;
         Ok(())
+    }
+
+    /// Returns how many names there are, each counted once.
+    pub(crate) fn len(&self) -> usize
+        ensures { result ≡ length self.now.entries }
+    {
+        self.places.len()
     }
 
     /// Returns the number of the first symbol that states this name.

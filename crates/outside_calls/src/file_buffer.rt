@@ -8,8 +8,11 @@ use std::io;
 use std::io::Read;
 use std::marker::Model;
 
-/// The bytes of the file that was read last, in memory that the next read uses again. A contract
-/// sees it as those bytes.
+/// How many bytes of memory are kept for the next read at most. Few modules have more.
+const KEPT: usize = 8 << 20;
+
+/// The bytes of the file that was read last, in memory that the next read uses again, unless it is
+/// more than 8 megabytes. A contract sees it as those bytes.
 #[derive(Drop)]
 pub struct FileBuffer {
     room: Vec<u8>,
@@ -74,8 +77,19 @@ impl FileBuffer {
         ensures bytes { OnOk result
             (IfSome (R.remaining reader.old) (λ left. self.new ≡ take (file_limit + 1) left)) }
     {
-        self.filled = 0;
+        self.clear();
         self.filled = read_limited(reader, &mut self.room, expected)?;
         Ok(())
+    }
+
+    /// Forgets the bytes, and gives their memory back if it is too much to be kept.
+    fn clear(&mut self)
+        ensures { self.new ≡ [] }
+    {
+        self.filled = 0;
+        if self.room.len() > KEPT {
+            self.room.clear();
+            self.room.shrink_to_fit();
+        }
     }
 }

@@ -211,7 +211,7 @@ fn aliases(alloc: Global, facts: &Facts) -> Result<Vec<Statement<'_>>, AllocErro
     ensures { IfOk result
         (λ stated. stated.items ≡ map (statement StatedKind.Alias) (aliases_of facts.now)) }
 {
-    let mut usable = Vec::new(alloc);
+    let mut usable = Vec::with_capacity(alloc, facts.aliases.len())?;
     for alias in facts.aliases.as_slice() {
         if let Some(stated) = usable_alias(alloc, alias.as_bytes())? {
             usable.push(stated)?;
@@ -225,7 +225,7 @@ fn softdeps(alloc: Global, facts: &Facts) -> Result<Vec<Statement<'_>>, AllocErr
     ensures { IfOk result
         (λ stated. stated.items ≡ map (statement StatedKind.Softdep) (softdeps_of facts.now)) }
 {
-    let mut usable = Vec::new(alloc);
+    let mut usable = Vec::with_capacity(alloc, facts.softdeps.len())?;
     for text in facts.softdeps.as_slice() {
         let text = text.as_bytes();
         if is_usable_softdep(text) {
@@ -240,7 +240,7 @@ fn symbols(alloc: Global, facts: &Facts) -> Result<Vec<Statement<'_>>, AllocErro
     ensures { IfOk result
         (λ stated. stated.items ≡ map (statement StatedKind.Symbol) (symbols_of facts.now)) }
 {
-    let mut names = Vec::new(alloc);
+    let mut names = Vec::with_capacity(alloc, facts.exports.len())?;
     for export in facts.exports.as_slice() {
         let text = export.name.as_bytes();
         names.push(Statement {

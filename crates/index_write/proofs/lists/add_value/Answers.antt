@@ -1,4 +1,4 @@
-use Rattle.std.proofs.Common.{rules, ap, ◌∙◌, Some, None}
+use Rattle.std.proofs.Common.{rules, Some, None}
 use Rattle.std.proofs.lemmas.Result.{on_ok_weaker}
 use Rattle.index_write.specs.Lists.{value_of}
 use Rattle.index_write.proofs.KeyLemmas.{ordered, list-with_one, list-kept, on_err_weaker}
