@@ -11,8 +11,8 @@ use std::marker::Model;
 /// How many bytes of memory are kept for the next read at most. Few modules have more.
 const KEPT: usize = 8 << 20;
 
-/// The bytes of the file that was read last, in memory that the next read uses again, unless it is
-/// more than 8 megabytes. A contract sees it as those bytes.
+/// The bytes of the file that was read last, in memory that the next read uses again, up to 8
+/// megabytes of it. A contract sees it as those bytes.
 #[derive(Drop)]
 pub struct FileBuffer {
     room: Vec<u8>,
@@ -82,13 +82,13 @@ impl FileBuffer {
         Ok(())
     }
 
-    /// Forgets the bytes, and gives their memory back if it is too much to be kept.
+    /// Forgets the bytes, and gives back what isn't kept of their memory.
     fn clear(&mut self)
         ensures { self.new ≡ [] }
     {
         self.filled = 0;
         if self.room.len() > KEPT {
-            self.room.clear();
+            self.room.truncate(KEPT);
             self.room.shrink_to_fit();
         }
     }
