@@ -1,17 +1,19 @@
 -- What needs are bound to, a need more at a time.
-use Rattle.std.proofs.Common.{◌≡◌, ℕ, ◌+◌, ◌<◌, Bool, true, false, ◌&&◌, not, cond, List, [], ◌∷◌}
+use Rattle.std.proofs.Common.{◌≡◌, ℕ, ◌+◌, ◌<◌, Bool, true, false, ◌&&◌, ◌||◌, not, cond, List, [], ◌∷◌}
 use Rattle.std.proofs.Common.{◌++◌, length, map, take, get_or, Option, Some, None, refl, sym, ap}
 use Rattle.std.proofs.Common.{◌∙◌, append-nil}
 use Rattle.std.proofs.lemmas.List.{get_or-map, length-map, take_more}
 use Rattle.std.proofs.lemmas.List.Elements.{filter_map-append}
 use Rattle.std.specs.List.{cons_option}
+use Rattle.module_facts.specs.declared.facts.Facts.{Facts}
+use Rattle.module_symbols.specs.declared.needs.Need.{Need as StatedNeed}
 use Rattle.symbol_binding.specs.Symbols.{Face, Need}
 use Rattle.symbol_binding.specs.Needs.{agree}
 use Rattle.provider_rel.specs.declared.unmet.UnmetKind.{UnmetKind}
 use Rattle.provider_rel.specs.declared.unmet.UnmetKind.TheVariants.{Missing, Gpl, Version}
 use Rattle.provider_rel.specs.declared.unmet.UnmetKind.TheVariants.{Namespace}
 use Rattle.provider_rel.specs.Items.{Item, owner_under, used_places}
-use Rattle.provider_rel.specs.Kinds.{test_of}
+use Rattle.provider_rel.specs.Kinds.{test_of, has_line}
 
 module _ (is : List Item) (bound : List (Option ℕ)) (i : ℕ) (d : Option ℕ)
     (within : i < length bound) where
@@ -71,3 +73,12 @@ alone Version true x m n other = refl
 alone Version false x m n other = sym (unstated n.crc)
 alone Namespace true x m n other = refl
 alone Namespace false x m n other = refl
+
+-- with an unknown kernel, a need under whose name nothing was found has no line
+no-line : (strong other : Bool) → other ≡ false
+    → false ≡ ((strong && false) || (strong && false) || other || false)
+no-line true other is = ap (λ b. b || false) (sym is)
+no-line false other is = ap (λ b. b || false) (sym is)
+
+pub unknown-alone : (f : Facts) (n : StatedNeed) → false ≡ has_line false f n None
+unknown-alone f n = no-line (not n.weak) (not (agree n.crc None)) (unstated n.crc)

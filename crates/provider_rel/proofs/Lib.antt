@@ -7,3 +7,4 @@ pub mod DoubleLaw
 pub mod MakeSteps
 pub mod Laws
 pub mod ClosedLaw
+pub mod NoLines

@@ -1,7 +1,7 @@
 -- The kinds of lines on needs, in the order of modules.unmet.
 -- It belongs to the code: no public meaning rests on it.
-use Rattle.std.specs.Prelude.{ℕ, Bool, List, [], ◌∷◌, Option, if◌then◌else◌}
-use Rattle.std.specs.List.{flat_map}
+use Rattle.std.specs.Prelude.{ℕ, Bool, ◌||◌, List, [], ◌∷◌, ◌++◌, Option, if◌then◌else◌}
+use Rattle.std.specs.List.{flat_map, list_any}
 use Rattle.module_facts.specs.declared.facts.Facts.{Facts}
 use Rattle.module_symbols.specs.declared.needs.Need.{Need as StatedNeed}
 use Rattle.name_table.specs.NameTable.{Table, place_of}
@@ -43,3 +43,30 @@ abbrev pub lines_by : UnmetKind → Bool → List Item → Table → Facts → L
 lines_by kind known is names f =
     flat_map (λ (n : StatedNeed). line_if kind known f n (item_under is (place_of names n.name)))
     f.needs
+
+-- Whether a need fails the test of a kind, by what was found under its name.
+abbrev pub fails : UnmetKind → Bool → Facts → StatedNeed → Option Item → Bool
+fails kind known f n found =
+    test_of kind (seen_under known n.name found) (face_of f) (need_of_facts n)
+
+-- Whether a need has a line of any kind.
+abbrev pub has_line : Bool → Facts → StatedNeed → Option Item → Bool
+has_line known f n found =
+    fails Missing known f n found
+    || fails Gpl known f n found
+    || fails Version known f n found
+    || fails Namespace known f n found
+
+-- Whether any need of a module has one, by the table of names.
+abbrev pub has_lines : Bool → List Item → Table → Facts → Bool
+has_lines known is names f =
+    list_any (λ (n : StatedNeed). has_line known f n (item_under is (place_of names n.name)))
+    f.needs
+
+-- Lines, and after them those of all needs of a tree, one kind after the other.
+abbrev pub with_need_lines : Bool → List Item → Table → List Facts → List Unbound → List Unbound
+with_need_lines known is names tree before =
+    before ++ flat_map (lines_by Missing known is names) tree
+    ++ flat_map (lines_by Gpl known is names) tree
+    ++ flat_map (lines_by Version known is names) tree
+    ++ flat_map (lines_by Namespace known is names) tree

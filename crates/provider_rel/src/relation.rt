@@ -19,7 +19,7 @@ ghost use Rattle.provider_rel.specs.Bindings.{AreBindings};
 use crate::bindings::{Bindings, all_used};
 use crate::doubles::{count_doubles, push_doubles};
 use crate::items::ExportItem;
-use crate::unmet::{UnmetKind, push_all_lines};
+use crate::unmet::push_need_lines;
 use crate::{Provider, RelationFault, TreeFacts};
 use kernel_exports::Kernel;
 use km_names::{List, Name, Names, TreeIndex};
@@ -174,10 +174,7 @@ fn obstacles_of(
     ensures { IfOk result (λ lines. lines ≡ unmet (modules_of tree.now) (kernel_of kernel.now)) }
 {
     let mut lines = Obstacles::new(alloc);
-    push_all_lines(alloc, &mut lines, UnmetKind::Missing, tree, bindings)?;
-    push_all_lines(alloc, &mut lines, UnmetKind::Gpl, tree, bindings)?;
-    push_all_lines(alloc, &mut lines, UnmetKind::Version, tree, bindings)?;
-    push_all_lines(alloc, &mut lines, UnmetKind::Namespace, tree, bindings)?;
+    push_need_lines(alloc, &mut lines, tree, bindings)?;
     push_doubles(alloc, &mut lines, &bindings.names, &bindings.items)?;
     Ok(lines)
 }

@@ -1,10 +1,11 @@
 // The lines of modules.unmet on needs.
 ghost use Rattle.std.specs.Prelude.{◌≡◌, ◌++◌, None, Some, map, option_copied, OnOk, IfOk};
-ghost use Rattle.std.specs.List.{flat_map};
+ghost use Rattle.std.specs.List.{flat_map, list_any};
 ghost use Rattle.module_facts.specs.declared.facts.Facts.{Facts};
 ghost use Rattle.provider_rel.specs.Faces.{face_of, need_of_facts};
 ghost use Rattle.provider_rel.specs.Items.{seen_under, path_under, bound_of};
-ghost use Rattle.provider_rel.specs.Kinds.{test_of, line_of, line_if, lines_by};
+ghost use Rattle.provider_rel.specs.Kinds.{test_of, line_of, line_if, lines_by, has_line};
+ghost use Rattle.provider_rel.specs.Kinds.{has_lines, with_need_lines};
 
 use crate::TreeFacts;
 use crate::bindings::Bindings;
@@ -23,8 +24,77 @@ pub(crate) enum UnmetKind {
     Namespace,
 }
 
+/// Adds the lines of all needs of a tree, one kind after the other. Most trees have none, so that is
+/// looked for first, in one pass.
+pub(crate) fn push_need_lines(
+    alloc: Global,
+    lines: &mut Obstacles,
+    tree: &TreeFacts,
+    bindings: &Bindings,
+) -> Result<(), AllocError>
+    requires { map (λ b. b.items) bindings.now.bound.items
+        ≡ map (λ f. bound_of bindings.now.names f.needs) tree.now }
+    ensures { OnOk result
+        (lines.new
+        ≡ with_need_lines bindings.now.known bindings.now.items.items bindings.now.names
+        tree.now lines.old) }
+{
+    if !any_line(tree, bindings) {
+        return Ok(());
+    }
+    push_all_lines(alloc, lines, UnmetKind::Missing, tree, bindings)?;
+    push_all_lines(alloc, lines, UnmetKind::Gpl, tree, bindings)?;
+    push_all_lines(alloc, lines, UnmetKind::Version, tree, bindings)?;
+    push_all_lines(alloc, lines, UnmetKind::Namespace, tree, bindings)
+}
+
+/// Returns whether any need of a tree has a line.
+fn any_line(tree: &TreeFacts, bindings: &Bindings) -> bool
+    requires { map (λ b. b.items) bindings.now.bound.items
+        ≡ map (λ f. bound_of bindings.now.names f.needs) tree.now }
+    ensures { result
+        ≡ list_any
+        (has_lines bindings.now.known bindings.now.items.items bindings.now.names)
+        tree.now }
+{
+    let modules = tree.as_slice();
+    let mut any = false;
+    for i in 0..modules.len() {
+        any = any_line_of(&modules[i], bindings, &bindings.bound[i]) || any;
+    }
+    any
+}
+
+/// Returns whether any need of a module has a line.
+fn any_line_of(facts: &Facts, bindings: &Bindings, bound: &[Option<u32>]) -> bool
+    requires { bound.now ≡ bound_of bindings.now.names facts.now.needs }
+    ensures { result
+        ≡ has_lines bindings.now.known bindings.now.items.items bindings.now.names facts.now }
+{
+    let needs = facts.needs.as_slice();
+    let mut any = false;
+    for i in 0..needs.len() {
+        let found = item_at(&bindings.items, bound[i]);
+        any = has_line(facts, &needs[i], found, bindings.known) || any;
+    }
+    any
+}
+
+/// Returns whether a need has a line of any kind.
+fn has_line(facts: &Facts, need: &Need, found: Option<&ExportItem>, known: bool) -> bool
+    ensures { result ≡ has_line known facts.now need.now (option_copied found.entry) }
+{
+    match found {
+        Some(item) if sees(facts.free, item.gpl()) => {
+            !agree(need.crc, item.crc()) || !may_use(&facts.imports, item.space())
+        }
+        Some(_) => !need.weak,
+        None => known && !need.weak,
+    }
+}
+
 /// Adds the lines of a kind of all modules.
-pub(crate) fn push_all_lines(
+fn push_all_lines(
     alloc: Global,
     lines: &mut Obstacles,
     kind: UnmetKind,
