@@ -1,7 +1,9 @@
-// The version list of a module, with a table of its names.
+// The version list of a module, with a table of its names if they are many.
 
-ghost use Rattle.std.specs.Prelude.{◌≡◌, ◌<◌, ◌-◌, ◌^◌, length, map, Some, IfOk};
+ghost use Rattle.std.specs.Prelude.{◌≡◌, ◌<◌, ◌-◌, ◌^◌, length, map, Some, IfOk, IfSome};
 ghost use Rattle.name_table.specs.NameTable.{IsTableOf};
+ghost use Rattle.module_symbols.specs.Listed.{version_entry};
+ghost use Rattle.module_symbols.specs.Versions.{stated_version};
 
 use crate::versions::{Version, Versions, version_list};
 use elf_object::ObjectView;
@@ -9,17 +11,26 @@ use name_table::NameTable;
 use std::alloc::{AllocError, Global};
 use std::marker::Model;
 
+/// The most versions that are looked through one by one, which takes less time than a table of so
+/// few.
+const FEW_VERSIONS: usize = 128;
+
+/// The most symbols for which versions are looked through one by one. Each may be a need, and names
+/// may share their bytes, so a file may have many more.
+const FEW_SYMBOLS: u32 = 1 << 16;
+
 /// The versions that a module states of the symbols that it needs, in the order of the file.
 /// Contracts see the names with their numbers. The kernel's include/linux/module.h, struct
 /// modversion_info.
 #[derive(Drop)]
 pub(crate) struct VersionList<'a> {
     entries: Versions<'a>,
-    names: NameTable<'a>,
+    // None if they are few.
+    names: Option<NameTable<'a>>,
 }
 
 impl<'a> Model for VersionList<'a> {
-    ghost use Rattle.std.specs.Prelude.{ℕ, List, Some, map};
+    ghost use Rattle.std.specs.Prelude.{ℕ, List, Some, IfSome, map};
     ghost use Rattle.name_table.specs.NameTable.{IsTableOf};
     ghost use Rattle.module_symbols.specs.Listed.{version_entry};
 
@@ -27,7 +38,8 @@ impl<'a> Model for VersionList<'a> {
 
     ghost view = { λ list. map version_entry list.entries };
 
-    ghost invariant = { λ list. IsTableOf list.names (map (λ v. Some v.name.now) list.entries) };
+    ghost invariant = { λ list. IfSome list.names
+        (λ names. IsTableOf names (map (λ v. Some v.name.now) list.entries)) };
 }
 
 impl<'a> VersionList<'a> {
@@ -41,7 +53,7 @@ impl<'a> VersionList<'a> {
         ensures { IfOk result (λ list. list ≡ version_list object.now) }
     {
         let entries = version_list(alloc, object)?;
-        let names = table_of(alloc, entries.as_slice())?;
+        let names = table_if_many(alloc, entries.as_slice(), object.symbol_count())?;
         Ok(VersionList { entries, names })
     }
 
@@ -53,16 +65,56 @@ impl<'a> VersionList<'a> {
     }
 
     /// Returns the version that the list has for a name, from the first entry of the name.
-    #[tactic(auto, unfolding(crate::specs::Versions::stated_version))]
     pub(crate) fn version_of(&self, name: &[u8]) -> Option<u64>
         ensures { result ≡ stated_version self.now name.now }
     {
-        let place = self.names.place(name)?;
-        match self.entries.get(place as usize) {
-            Some(version) => Some(version.number),
-            None => None,
+        match &self.names {
+            Some(names) => version_by(&self.entries, names, name),
+            None => first_version(self.entries.as_slice(), name),
         }
     }
+}
+
+/// Returns the version of the first entry of a name, by the table of the names.
+#[tactic(auto, unfolding(crate::specs::Versions::stated_version))]
+fn version_by(entries: &Versions, names: &NameTable, name: &[u8]) -> Option<u64>
+    requires { IsTableOf names.now (map (λ v. Some v.name.now) entries.now) }
+    ensures { result ≡ stated_version (map version_entry entries.now) name.now }
+{
+    let place = names.place(name)?;
+    match entries.get(place as usize) {
+        Some(version) => Some(version.number),
+        None => None,
+    }
+}
+
+/// Returns the version of the first entry of a name, looked for one by one.
+#[tactic(auto, unfolding(crate::specs::Versions::stated_version))]
+fn first_version(entries: &[Version], name: &[u8]) -> Option<u64>
+    ensures { result ≡ stated_version (map version_entry entries.now) name.now }
+{
+    for version in entries {
+        if version.name == name {
+            return Some(version.number);
+        }
+    }
+    None
+}
+
+/// Returns the table of the names of some versions, unless they and the symbols are few.
+fn table_if_many<'a>(
+    alloc: Global,
+    entries: &[Version<'a>],
+    symbols: u32,
+) -> Result<Option<NameTable<'a>>, AllocError>
+    requires { length entries.now < 2 ^ 32 - 1 }
+    ensures { IfOk result (λ names. IfSome names
+        (λ t. IsTableOf t (map (λ v. Some v.name.now) entries.now))) }
+{
+    if entries.len() <= FEW_VERSIONS && symbols <= FEW_SYMBOLS {
+        return Ok(None);
+    }
+    Ok(Some(table_of(alloc, entries)?))
 }
 
 /// Returns the table of the names of some versions.

@@ -106,8 +106,9 @@ fn entry_list<'a>(alloc: Global, bytes: &'a [u8]) -> Result<Versions<'a>, AllocE
     ensures list { IfOk result (λ list. map version_entry list ≡ entry_list bytes.now) }
     ensures few { IfOk result (λ list. length list ≤ file_limit) }
 {
-    let mut list = Versions::new(alloc);
-    for k in 0..(bytes.len() / ENTRY) as u32 {
+    let count = bytes.len() / ENTRY;
+    let mut list = Versions::from_vec(Vec::with_capacity(alloc, count)?);
+    for k in 0..count as u32 {
         if let Some(name) = entry_name(bytes, k) {
             let number = le_u64_at(bytes, ENTRY * k as usize);
             list.push(Version { name, number })?;
