@@ -1,3 +1,4 @@
 pub mod TextSteps
 pub mod MapSteps
 pub mod StatedSteps
+pub mod PlainAlias

@@ -1,14 +1,13 @@
 -- The lines and the values of what modules state.
 use Rattle.std.proofs.Common.{◌≡◌, refl, sym, ap, ◌∙◌, subst, ℕ, ◌<◌, Bool, true, false, cond, List}
 use Rattle.std.proofs.Common.{[], ◌∷◌, ◌++◌, length, map, get_or, flat_map, filter, codes, All}
-use Rattle.std.proofs.Common.{Option, Some, None, is_some, option_map, append_assoc, arith}
-use Rattle.std.specs.List.{cons_option, filter_map, enumerate_from}
+use Rattle.std.proofs.Common.{Option, Some, None, is_some, append_assoc, arith}
+use Rattle.std.specs.List.{filter_map, enumerate_from}
 use Rattle.std.specs.Option.{IfSome}
 use Rattle.std.specs.Global.{Vec}
 use Rattle.std.proofs.lemmas.List.{get_or-map, length-map}
 use Rattle.std.proofs.lemmas.List.Elements.{All-nil, All-cons, All-map}
 use Rattle.std.proofs.lemmas.Grind.{flat_map-append}
-use Rattle.std.proofs.lemmas.Simd.{map-map}
 use Rattle.km_names.specs.Ascii.{is_graphic}
 use Rattle.km_names.specs.AliasForm.{normal_alias}
 use Rattle.index_format.specs.Map.{IsKey}
@@ -20,12 +19,12 @@ use Rattle.stated_texts.specs.declared.stated.StatedKind.{StatedKind}
 use Rattle.stated_texts.specs.declared.stated.StatedKind.TheVariants.{Alias, Softdep, Symbol}
 use Rattle.stated_texts.specs.Lines.{ended, lines_text}
 use Rattle.stated_texts.specs.Maps.{map_of}
-use Rattle.stated_texts.specs.Stated.{is_usable_alias, aliases_of, symbols_of, alias_values}
+use Rattle.stated_texts.specs.Stated.{is_usable_alias, symbols_of}
 use Rattle.stated_texts.specs.Stated.{alias_text, softdep_text, symbols_text, alias_map}
 use Rattle.stated_texts.specs.Stated.{symbols_map}
 use Rattle.stated_texts.specs.Stated.{symbol_values}
-use Rattle.stated_texts.specs.Kinds.{heading, key_of, statement, statements, texts_of, text_of}
-use Rattle.stated_texts.specs.Kinds.{map_by, map_for, values_with, values_by}
+use Rattle.stated_texts.specs.Kinds.{heading, key_of, map_by, map_for, text_of, texts_of}
+use Rattle.stated_texts.specs.Kinds.{values_by}
 use Rattle.stated_texts.specs.Kinds.{line_of as stated_line}
 use Rattle.stated_texts.specs.AllStated.{AreStated}
 
@@ -71,13 +70,6 @@ stated-keys Symbol f good =
     (λ k d inside. key-of (codes "symbol:" ++ (get_or f.exports k d).name)
     (characters (get_or f.exports k d).name (good.exports k d inside)))
 
--- the same of texts with their keys
-pub keys-good : (kind : StatedKind) (f : Facts) → IsTreeModule f
-    → All (λ (s : List ℕ × Option (List ℕ)). IfSome s.1 IsKey) (statements kind f)
-keys-good kind f good =
-    All-map (λ (s : List ℕ × Option (List ℕ)). IfSome s.1 IsKey) (statement kind) (texts_of kind f)
-    (stated-keys kind f good)
-
 -- lists that are seen as lists of what is at their places
 seen-at : {X Y Z : Type 0} (see : X → Z) (f : Y → Z) (xs : List X) (ys : List Y) (i : ℕ) (x : X)
     (y : Y)
@@ -89,22 +81,21 @@ seen-at see f xs ys i x y same within inside is other =
 
 -- there is a list for each module
 pub stated-long : (kind : StatedKind) (tree : List Facts)
-    (all : List (Vec (List ℕ × Option (List ℕ))))
+    (all : List (Vec (List ℕ)))
     → AreStated kind tree all → length all ≡ length tree
 stated-long kind tree all are =
-    let see = λ (v : Vec (List ℕ × Option (List ℕ))). v.items in
-    omega (arith, ap length are, length-map all see, length-map tree (statements kind))
+    let see = λ (v : Vec (List ℕ)). v.items in
+    omega (arith, ap length are, length-map all see, length-map tree (texts_of kind))
 
 -- what the module at a place states
 pub stated-at : (kind : StatedKind) (tree : List Facts)
-    (all : List (Vec (List ℕ × Option (List ℕ)))) (i : ℕ) (v : Vec (List ℕ × Option (List ℕ)))
-    (f : Facts)
+    (all : List (Vec (List ℕ))) (i : ℕ) (v : Vec (List ℕ)) (f : Facts)
     → AreStated kind tree all → i < length tree → v ≡ get_or all i v → f ≡ get_or tree i f
-    → v.items ≡ statements kind f
+    → v.items ≡ texts_of kind f
 stated-at kind tree all i v f are within is at =
-    let see = λ (v : Vec (List ℕ × Option (List ℕ))). v.items in
+    let see = λ (v : Vec (List ℕ)). v.items in
     let inside : i < length all = omega (arith, within, stated-long kind tree all are) in
-    seen-at see (statements kind) all tree i v f are inside within is at
+    seen-at see (texts_of kind) all tree i v f are inside within is at
 
 -- the texts of lists of lines, one after the other
 pub text-of-lists : {X : Type 0} (f : X → List (List ℕ)) (xs : List X)
@@ -125,16 +116,11 @@ tree-module tree items i f same inside is good =
 abbrev pub lines_by : StatedKind → Facts → List (List ℕ)
 lines_by kind f = map (stated_line kind f.name) (texts_of kind f)
 
--- the same of texts with their keys
-pub lines-seen : (kind : StatedKind) (f : Facts) (name : List ℕ)
-    (all : List (List ℕ × Option (List ℕ)))
-    → name ≡ f.name → all ≡ statements kind f
-    → map (λ (s : List ℕ × Option (List ℕ)). stated_line kind name s.0) all ≡ lines_by kind f
-lines-seen kind f name all named are =
-    ap (λ n. map (λ (s : List ℕ × Option (List ℕ)). stated_line kind n s.0) all) named
-    ∙ ap (map (λ (s : List ℕ × Option (List ℕ)). stated_line kind f.name s.0)) are
-    ∙ map-map (λ (s : List ℕ × Option (List ℕ)). stated_line kind f.name s.0) (statement kind)
-    (texts_of kind f)
+-- the same, as they are read
+pub lines-seen : (kind : StatedKind) (f : Facts) (name : List ℕ) (all : List (List ℕ))
+    → name ≡ f.name → all ≡ texts_of kind f
+    → map (stated_line kind name) all ≡ lines_by kind f
+lines-seen kind f name all named are = λ i. map (stated_line kind (named i)) (are i)
 
 -- The lines of the file, put one after the other.
 abbrev pub text_by : StatedKind → List Facts → List ℕ
@@ -156,23 +142,11 @@ same-each : {X Y : Type 0} (f g : X → List Y) → ((x : X) → f x ≡ g x) �
 same-each f g same [] = refl
 same-each f g same (x ∷ xs) = λ i. same x i ++ same-each f g same xs i
 
--- values by texts with their keys
-with-keys : (kind : StatedKind) (place : ℕ) (name : List ℕ) (texts : List (List ℕ))
-    → values_with place name (map (statement kind) texts)
-    ≡ filter_map (λ text. option_map (λ key. (key, (place, name))) (key_of kind text)) texts
-with-keys kind place name [] = refl
-with-keys kind place name (t ∷ ts) =
-    ap (λ l. cons_option (option_map (λ key. (key, (place, name))) (key_of kind t)) l)
-    (with-keys kind place name ts)
-
 pub kind-map : (kind : StatedKind) (tree : List Facts) → map_by kind tree ≡ map_for kind tree
 unfolding alias_map symbols_map
-kind-map Alias tree =
-    ap map_of (same-each (values_by Alias) alias_values
-    (λ m. with-keys Alias m.0 m.1.name (aliases_of m.1)) (enumerate_from 0 tree))
+kind-map Alias tree = refl
 kind-map Softdep tree = refl
 kind-map Symbol tree =
     ap map_of (same-each (values_by Symbol) symbol_values
-    (λ m. with-keys Symbol m.0 m.1.name (symbols_of m.1)
-    ∙ all-kept (λ symbol. (codes "symbol:" ++ symbol, (m.0, m.1.name))) (symbols_of m.1))
+    (λ m. all-kept (λ symbol. (codes "symbol:" ++ symbol, (m.0, m.1.name))) (symbols_of m.1))
     (enumerate_from 0 tree))

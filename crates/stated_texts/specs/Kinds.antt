@@ -1,5 +1,5 @@
 -- What modules state, by its kind. depmod(8), modprobe.d(5).
-use Rattle.std.specs.Prelude.{ℕ, List, ◌++◌, map, flat_map, codes, Option, Some, None}
+use Rattle.std.specs.Prelude.{ℕ, List, ◌++◌, flat_map, codes, Option, Some, None}
 use Rattle.std.specs.Prelude.{option_map}
 use Rattle.std.specs.List.{filter_map, enumerate_from}
 use Rattle.km_names.specs.AliasForm.{normal_alias}
@@ -36,19 +36,16 @@ key_of Alias text = normal_alias text
 key_of Softdep text = None
 key_of Symbol text = Some (codes "symbol:" ++ text)
 
--- A text that is stated, with its key.
-abbrev pub statement : StatedKind → List ℕ → List ℕ × Option (List ℕ)
-statement kind text = (text, key_of kind text)
-
-abbrev pub statements : StatedKind → Facts → List (List ℕ × Option (List ℕ))
-statements kind f = map (statement kind) (texts_of kind f)
+-- The value of a text that the module at a place states, if it has a key.
+abbrev pub value_with : StatedKind → ℕ → List ℕ → List ℕ → Option KeyValue
+value_with kind place name text = option_map (λ key. (key, (place, name))) (key_of kind text)
 
 -- The values of the module at a place.
-abbrev pub values_with : ℕ → List ℕ → List (List ℕ × Option (List ℕ)) → List KeyValue
-values_with place name all = filter_map (λ s. option_map (λ key. (key, (place, name))) s.1) all
+abbrev pub values_with : StatedKind → ℕ → List ℕ → List (List ℕ) → List KeyValue
+values_with kind place name texts = filter_map (value_with kind place name) texts
 
 abbrev pub values_by : StatedKind → ℕ × Facts → List KeyValue
-values_by kind (place, f) = values_with place f.name (statements kind f)
+values_by kind (place, f) = values_with kind place f.name (texts_of kind f)
 
 -- The map of the index.
 abbrev pub map_by : StatedKind → List Facts → KeyValues

@@ -1,7 +1,8 @@
 // What modules state for others to find them by.
-ghost use Rattle.std.specs.Prelude.{◌≡◌, ◌==◌, ◌++◌, List, Some, None, OnOk, IfOk};
-ghost use Rattle.std.specs.Prelude.{IfSome, IsTrue, All, map, codes, if◌then◌else◌};
-ghost use Rattle.std.specs.List.{list_all};
+ghost use Rattle.std.specs.Prelude.{◌≡◌, ◌==◌, [], List, Some, OnOk, IfOk};
+ghost use Rattle.std.specs.Prelude.{IfSome, IsTrue, All, map};
+ghost use Rattle.std.specs.List.{cons_option, list_all};
+ghost use Rattle.km_names.specs.AliasForm.{normal_alias};
 ghost use Rattle.km_names.specs.Ascii.{is_graphic};
 ghost use Rattle.index_format.specs.Map.{IsKey};
 ghost use Rattle.module_facts.specs.declared.facts.Facts.{Facts};
@@ -10,8 +11,8 @@ ghost use Rattle.stated_texts.specs.Lines.{ended, lines_text};
 ghost use Rattle.stated_texts.specs.Maps.{with_values};
 ghost use Rattle.stated_texts.specs.Stated.{is_usable_alias, is_usable_softdep, is_printable};
 ghost use Rattle.stated_texts.specs.Stated.{aliases_of, softdeps_of, symbols_of};
-ghost use Rattle.stated_texts.specs.Kinds.{heading, statement, statements, line_of, text_of};
-ghost use Rattle.stated_texts.specs.Kinds.{values_with, map_for};
+ghost use Rattle.stated_texts.specs.Kinds.{heading, key_of, line_of, map_for, text_of, texts_of};
+ghost use Rattle.stated_texts.specs.Kinds.{value_with, values_with};
 ghost use Rattle.stated_texts.specs.AllStated.{AreStated, AreAllStated};
 ghost use Rattle.stated_texts.specs.Text.{with_piece};
 
@@ -34,20 +35,18 @@ pub enum StatedKind {
     Symbol,
 }
 
-/// What a module states once: the text, and the key by which its kind's index has it, if it has it.
-/// Contracts see the two.
+/// A text that a module states. Contracts see the text.
 #[derive(Drop)]
 struct Statement<'a> {
     text: &'a [u8],
-    key: Option<Blob>,
 }
 
 impl<'a> Model for Statement<'a> {
-    ghost use Rattle.std.specs.Prelude.{ℕ, List, Option};
+    ghost use Rattle.std.specs.Prelude.{ℕ, List};
 
-    ghost Value = { List ℕ × Option (List ℕ) };
+    ghost Value = { List ℕ };
 
-    ghost view = { λ s. (s.text.now, s.key) };
+    ghost view = { λ s. s.text.now };
 }
 
 /// What the modules of a tree state, of each kind.
@@ -122,7 +121,7 @@ pub fn stated_map(
     let modules = tree.as_slice();
     for place in 0..modules.len() {
         let name = modules[place].name.as_bytes();
-        add_values(&mut map, place as u32, name, &lists[place])?;
+        add_values(alloc, &mut map, kind, place as u32, name, &lists[place])?;
     }
     Ok(map)
 }
@@ -144,22 +143,80 @@ fn all_stated(
 
 /// Puts the values of the module at a place into a kind's map.
 fn add_values(
+    alloc: Global,
     key_map: &mut KeyMap,
+    kind: StatedKind,
     place: u32,
     name: &[u8],
     all: &[Statement<'_>],
 ) -> Result<(), AllocError>
     requires name { IsTrue (is_graphic name.now) }
-    requires keys { All (λ stated. IfSome stated.1 IsKey) all.now }
+    requires keys { All (λ text. IfSome (key_of kind text) IsKey) all.now }
     ensures { OnOk result
-        (key_map.new ≡ with_values key_map.old (values_with place name.now all.now)) }
+        (key_map.new ≡ with_values key_map.old (values_with kind place name.now all.now)) }
 {
     for stated in all {
-        if let Some(key) = &stated.key {
-            key_map.add(key.as_bytes(), place, name)?;
-        }
+        add_value(alloc, key_map, kind, place, name, stated.text)?;
     }
     Ok(())
+}
+
+/// Puts the value of a text that the module at a place states into a kind's map, if it has a key.
+fn add_value(
+    alloc: Global,
+    key_map: &mut KeyMap,
+    kind: StatedKind,
+    place: u32,
+    name: &[u8],
+    text: &[u8],
+) -> Result<(), AllocError>
+    requires name { IsTrue (is_graphic name.now) }
+    requires key { IfSome (key_of kind text.now) IsKey }
+    ensures { OnOk result
+        (key_map.new
+        ≡ with_values key_map.old (cons_option (value_with kind place name.now text.now) [])) }
+{
+    if let Some(key) = key(alloc, kind, text)? {
+        key_map.add_owned(key.into_vec(), place, Vec::from_slice(alloc, name)?)?;
+    }
+    Ok(())
+}
+
+/// Returns the key under which the index of a kind has a text, if it has one.
+fn key(alloc: Global, kind: StatedKind, text: &[u8]) -> Result<Option<Blob>, AllocError>
+    ensures { IfOk result (λ key. key ≡ key_of kind text.now) }
+{
+    match kind {
+        StatedKind::Alias => alias_key(alloc, text),
+        StatedKind::Softdep => Ok(None),
+        StatedKind::Symbol => Ok(Some(Blob::concat(alloc, &[b"symbol:", text])?)),
+    }
+}
+
+/// Returns the normal form of an alias, if it has one.
+fn alias_key(alloc: Global, alias: &[u8]) -> Result<Option<Blob>, AllocError>
+    ensures { IfOk result (λ key. key ≡ normal_alias alias.now) }
+{
+    if is_plain(alias) {
+        return Ok(Some(Blob::from_slice(alloc, alias)?));
+    }
+    match normal_alias(alloc, alias)? {
+        Some(form) => Ok(Some(Blob::from_vec(form.into_vec()))),
+        None => Ok(None),
+    }
+}
+
+/// Returns whether an alias has no `-` and no bracket, as most. It is its own normal form then.
+fn is_plain(alias: &[u8]) -> bool
+    ensures { IsTrue result → normal_alias alias.now ≡ Some alias.now }
+{
+    if alias.contains(&b'-') {
+        return false;
+    }
+    if alias.contains(&b'[') {
+        return false;
+    }
+    !alias.contains(&b']')
 }
 
 /// Returns what a module states of a kind.
@@ -168,7 +225,7 @@ fn stated_by(
     kind: StatedKind,
     facts: &Facts,
 ) -> Result<Vec<Statement<'_>>, AllocError>
-    ensures { IfOk result (λ stated. stated.items ≡ statements kind facts.now) }
+    ensures { IfOk result (λ stated. stated.items ≡ texts_of kind facts.now) }
 {
     match kind {
         StatedKind::Alias => aliases(alloc, facts),
@@ -198,7 +255,7 @@ fn put_lines(
     ensures { OnOk result
         (text.new
         ≡ with_piece text.old
-        (lines_text (map (λ stated. line_of kind name.now stated.0) all.now))) }
+        (lines_text (map (line_of kind name.now) all.now))) }
 {
     for stated in all {
         put_line(text, kind, name, stated.text)?;
@@ -209,27 +266,28 @@ fn put_lines(
 /// Returns the aliases of a module that can be used.
 fn aliases(alloc: Global, facts: &Facts) -> Result<Vec<Statement<'_>>, AllocError>
     ensures { IfOk result
-        (λ stated. stated.items ≡ map (statement StatedKind.Alias) (aliases_of facts.now)) }
+        (λ stated. stated.items ≡ aliases_of facts.now) }
 {
     let mut usable = Vec::with_capacity(alloc, facts.aliases.len())?;
     for alias in facts.aliases.as_slice() {
-        if let Some(stated) = usable_alias(alloc, alias.as_bytes())? {
-            usable.push(stated)?;
+        let text = alias.as_bytes();
+        if is_usable_alias(alloc, text)? {
+            usable.push(Statement { text })?;
         }
     }
     Ok(usable)
 }
 
-/// Returns the texts of a module's softdeps that can be used. They have no keys.
+/// Returns the texts of a module's softdeps that can be used.
 fn softdeps(alloc: Global, facts: &Facts) -> Result<Vec<Statement<'_>>, AllocError>
     ensures { IfOk result
-        (λ stated. stated.items ≡ map (statement StatedKind.Softdep) (softdeps_of facts.now)) }
+        (λ stated. stated.items ≡ softdeps_of facts.now) }
 {
     let mut usable = Vec::with_capacity(alloc, facts.softdeps.len())?;
     for text in facts.softdeps.as_slice() {
         let text = text.as_bytes();
         if is_usable_softdep(text) {
-            usable.push(Statement { text, key: None })?;
+            usable.push(Statement { text })?;
         }
     }
     Ok(usable)
@@ -238,14 +296,12 @@ fn softdeps(alloc: Global, facts: &Facts) -> Result<Vec<Statement<'_>>, AllocErr
 /// Returns the names of the symbols that a module exports.
 fn symbols(alloc: Global, facts: &Facts) -> Result<Vec<Statement<'_>>, AllocError>
     ensures { IfOk result
-        (λ stated. stated.items ≡ map (statement StatedKind.Symbol) (symbols_of facts.now)) }
+        (λ stated. stated.items ≡ symbols_of facts.now) }
 {
     let mut names = Vec::with_capacity(alloc, facts.exports.len())?;
     for export in facts.exports.as_slice() {
-        let text = export.name.as_bytes();
         names.push(Statement {
-            text,
-            key: Some(symbol_key(alloc, text)?),
+            text: export.name.as_bytes(),
         })?;
     }
     Ok(names)
@@ -263,26 +319,18 @@ fn put_line(text: &mut Text, kind: StatedKind, name: &[u8], stated: &[u8]) -> Re
     }
 }
 
-/// Returns an alias with its normal form, if it can be used: it is a word of visible characters,
-/// and has a normal form.
+/// Returns whether an alias can be used: it is a word of visible characters, and has a normal form.
 #[tactic(auto, unfolding(crate::specs::Stated::is_usable_alias))]
-fn usable_alias(alloc: Global, alias: &[u8]) -> Result<Option<Statement<'_>>, AllocError>
-    ensures { IfOk result
-        (λ found. found
-        ≡ (if is_usable_alias alias.now
-        then Some (statement StatedKind.Alias alias.now)
-        else None)) }
+fn is_usable_alias(alloc: Global, alias: &[u8]) -> Result<bool, AllocError>
+    ensures { IfOk result (λ usable. usable ≡ is_usable_alias alias.now) }
 {
     if !is_graphic(alias) {
-        return Ok(None);
+        return Ok(false);
     }
-    match normal_alias(alloc, alias)? {
-        Some(form) => Ok(Some(Statement {
-            text: alias,
-            key: Some(Blob::from_vec(form.into_vec())),
-        })),
-        None => Ok(None),
+    if is_plain(alias) {
+        return Ok(true);
     }
+    Ok(normal_alias(alloc, alias)?.is_some())
 }
 
 /// Returns whether the text of a softdep can be used. It has only visible characters and spaces, at
@@ -292,15 +340,6 @@ fn is_usable_softdep(text: &[u8]) -> bool
     ensures { result ≡ is_usable_softdep text.now }
 {
     is_printable(text) && !is_spaces(text) && !text.ends_with(b"\\")
-}
-
-/// Returns the key of a symbol.
-fn symbol_key(alloc: Global, symbol: &[u8]) -> Result<Blob, AllocError>
-    ensures { IfOk result (λ key. key ≡ codes "symbol:" ++ symbol.now) }
-{
-    let mut key = Blob::from_slice(alloc, b"symbol:")?;
-    key.extend(symbol)?;
-    Ok(key)
 }
 
 fn is_printable(text: &[u8]) -> bool

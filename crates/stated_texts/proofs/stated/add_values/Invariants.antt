@@ -6,4 +6,4 @@ use Rattle.stated_texts.proofs.stated.add_values.Given as goal
 abbrev pub invariant-loop-stated : goal.invariant-loop-stated
 invariant-loop-stated l =
     l.key_map
-    ≡ with_values l.initial.key_map (values_with l.place l.name (take l.stated-index l.all))
+    ≡ with_values l.initial.key_map (values_with l.kind l.place l.name (take l.stated-index l.all))

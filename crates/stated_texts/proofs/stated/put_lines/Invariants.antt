@@ -8,5 +8,5 @@ abbrev pub invariant-loop-stated : goal.invariant-loop-stated
 invariant-loop-stated l =
     l.text
     ≡ with_piece l.initial.text
-    (flat_map (λ stated. ended (line_of l.kind l.name stated.0))
+    (flat_map (λ stated. ended (line_of l.kind l.name stated))
     (take l.stated-index l.all))

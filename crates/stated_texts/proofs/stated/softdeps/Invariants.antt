@@ -1,10 +1,8 @@
-use Rattle.std.proofs.Common.{◌≡◌, filter, map, take}
-use Rattle.stated_texts.specs.declared.stated.StatedKind.TheVariants.{Softdep}
+use Rattle.std.proofs.Common.{◌≡◌, filter, take}
 use Rattle.stated_texts.specs.Stated.{is_usable_softdep}
-use Rattle.stated_texts.specs.Kinds.{statement}
 use Rattle.stated_texts.proofs.stated.softdeps.Given as goal
 
 abbrev pub invariant-loop-text : goal.invariant-loop-text
 invariant-loop-text l =
     l.usable.items
-    ≡ map (statement Softdep) (filter is_usable_softdep (take l.text-index l.facts.softdeps))
+    ≡ filter is_usable_softdep (take l.text-index l.facts.softdeps)
