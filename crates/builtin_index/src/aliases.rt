@@ -95,7 +95,7 @@ fn add_alias(alloc: Global, key_map: &mut KeyMap, stated: Stated) -> Result<(), 
 {
     if let Some(key) = normal_alias(alloc, stated.alias)? {
         let name = underscored(alloc, stated.module)?;
-        key_map.add_owned(key.into_vec(), stated.place, name.into_vec())?;
+        key_map.add_owned(key.into_vec()?, stated.place, name.as_bytes())?;
     }
     Ok(())
 }

@@ -37,7 +37,7 @@ fn key_of(alloc: Global, text: &[u8]) -> Result<OwnedNameKey<'_>, AllocError>
         return Ok(OwnedNameKey::Asked(text));
     }
     let name = underscored(alloc, text)?;
-    Ok(OwnedNameKey::Owned(name.into_vec()))
+    Ok(OwnedNameKey::Owned(name.into_vec()?))
 }
 
 impl<'a> Seen<'a> {

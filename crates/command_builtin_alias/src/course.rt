@@ -56,8 +56,9 @@ fn found_text(alloc: Global, index: &Index, name: &Name) -> Result<Blob, Stop>
         Some(normal) => {
             let names = distinct_texts(alloc, index, normal.as_bytes())?;
             if names.len() == 0 {
-                let name = Name::from_vec(normal.into_vec());
-                return Err(Stop::from(Refusal::NotFound { name }));
+                return Err(Stop::from(Refusal::NotFound {
+                    name: normal.into_kind(),
+                }));
             }
             Ok(lines_of(alloc, &names)?)
         }

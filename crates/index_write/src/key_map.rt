@@ -72,27 +72,19 @@ impl KeyMap {
         ensures ok { OnOk result (self.new ≡ with_value self.old key.now (priority, text.now)) }
         ensures err { OnErr result (self.new ≡ self.old) }
     {
-        let key = Vec::from_slice(self.alloc, key)?;
-        let text = Vec::from_slice(self.alloc, text)?;
-        self.add_owned(key, priority, text)
+        self.add_owned(Vec::from_slice(self.alloc, key)?, priority, text)
     }
 
-    /// Adds a value to a key as [`KeyMap::add`] does. It takes the key and the text over, so it
-    /// copies neither.
-    pub fn add_owned(
-        &mut self,
-        key: Vec<u8>,
-        priority: u32,
-        text: Vec<u8>,
-    ) -> Result<(), AllocError>
+    /// Adds a value to a key as [`KeyMap::add`] does. It takes the key over, so it doesn't copy it.
+    pub fn add_owned(&mut self, key: Vec<u8>, priority: u32, text: &[u8]) -> Result<(), AllocError>
         requires key { IsKey key.items }
-        requires text { IsText text.items }
-        ensures ok { OnOk result (self.new ≡ with_value self.old key.items (priority, text.items)) }
+        requires text { IsText text.now }
+        ensures ok { OnOk result (self.new ≡ with_value self.old key.items (priority, text.now)) }
         ensures err { OnErr result (self.new ≡ self.old) }
     {
         let value = StoredValue {
             priority,
-            text: Blob::from_vec(text),
+            text: Blob::from_slice(self.alloc, text)?,
         };
         add_value(self.alloc, &mut self.lists, key_text(key), value)
     }

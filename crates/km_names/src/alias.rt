@@ -35,7 +35,7 @@ pub fn normal_or_itself(alloc: Global, name: &[u8]) -> Result<Name, AllocError>
     ensures { IfOk result (λ normal. normal ≡ normal_or_itself name.now) }
 {
     match normal_alias(alloc, name)? {
-        Some(normal) => Ok(Name::from_vec(normal.into_vec())),
+        Some(normal) => Ok(normal.into_kind()),
         None => Name::from_slice(alloc, name),
     }
 }

@@ -1,6 +1,6 @@
 // Lists of bytes by their kind: texts, names, paths and aliases.
 ghost use Rattle.std.specs.Prelude.{◌≡◌, ◌≤◌, ◌↔◌, ◌==◌, [], ◌∷◌, ◌++◌, length, map, IsNone, OnOk};
-ghost use Rattle.std.specs.Prelude.{OnErr, IfOk, slice_get, option_copied};
+ghost use Rattle.std.specs.Prelude.{◌⊎◌, OnErr, IfOk, slice_get, option_copied, take};
 ghost use Rattle.std.specs.List.{flat_map};
 ghost use Rattle.km_names.specs.Texts.{spaced};
 
@@ -9,20 +9,29 @@ use std::alloc::{AllocError, Global};
 use std::fmt;
 use std::marker::{Model, PhantomData};
 
-/// A growing list of bytes of the kind `K`, an empty enum that separates paths, names and texts.
-/// Contracts see it as the list of its bytes.
+/// How many bytes a copy may have to be kept in the list itself. Seven in eight names of symbols
+/// have no more.
+const FEW: usize = 23;
+
+/// A growing list of bytes of the kind `K`, an empty enum that separates paths, names and texts. A
+/// copy of at most 23 bytes takes no other memory. Contracts see it as the list of its bytes.
 #[derive(Drop)]
 pub struct Bytes<K> {
+    // Without bytes if some are in the list itself.
     bytes: Vec<u8>,
+    few: [u8; FEW],
+    few_count: u8,
     kind: PhantomData<K>,
 }
 
 impl<K> Model for Bytes<K> {
-    ghost use Rattle.std.specs.Prelude.{List, ℕ};
+    ghost use Rattle.std.specs.Prelude.{◌≡◌, ◌≤◌, ◌⊎◌, ◌++◌, [], List, ℕ, take};
 
     ghost Value = { List ℕ };
 
-    ghost view = { λ b. b.bytes.items };
+    ghost view = { λ b. take b.few_count b.few ++ b.bytes.items };
+
+    ghost invariant = { λ b. (b.few_count ≤ 23) × ((b.few_count ≡ 0) ⊎ (b.bytes.items ≡ [])) };
 }
 
 /// Shows the bytes as text in quotes, with escapes for what isn't UTF-8.
@@ -65,18 +74,22 @@ impl<K> Bytes<K> {
     pub fn new(alloc: Global) -> Self
         ensures { result ≡ [] }
     {
-        Bytes {
-            bytes: Vec::new(alloc),
-            kind: PhantomData,
-        }
+        Bytes::from_vec(Vec::new(alloc))
     }
 
     /// Returns a copy of the bytes.
     pub fn from_slice(alloc: Global, bytes: &[u8]) -> Result<Self, AllocError>
         ensures { IfOk result (λ b. b ≡ bytes.now) }
     {
+        if bytes.len() > FEW {
+            return Ok(Bytes::from_vec(Vec::from_slice(alloc, bytes)?));
+        }
+        let mut few = [0; FEW];
+        few[..bytes.len()].copy_from_slice(bytes);
         Ok(Bytes {
-            bytes: Vec::from_slice(alloc, bytes)?,
+            bytes: Vec::new(alloc),
+            few,
+            few_count: bytes.len() as u8,
             kind: PhantomData,
         })
     }
@@ -114,16 +127,42 @@ impl<K> Bytes<K> {
     {
         Bytes {
             bytes,
+            few: [0; FEW],
+            few_count: 0,
             kind: PhantomData,
         }
     }
 
-    /// Returns the vector of the bytes. It takes no memory.
-    pub fn into_vec(self) -> Vec<u8>
-        ensures { result.items ≡ self }
+    /// Returns the vector of the bytes. If they are a copy of at most 23 bytes, it takes memory.
+    pub fn into_vec(self) -> Result<Vec<u8>, AllocError>
+        ensures { IfOk result (λ v. v.items ≡ self) }
     {
-        let Bytes { bytes, kind: _ } = self;
-        bytes
+        let Bytes {
+            mut bytes,
+            few,
+            mut few_count,
+            kind: _,
+        } = self;
+        move_few(&few, &mut few_count, &mut bytes)?;
+        Ok(bytes)
+    }
+
+    /// Returns the same bytes as a list of another kind. It takes no memory.
+    pub fn into_kind<L>(self) -> Bytes<L>
+        ensures { result ≡ self }
+    {
+        let Bytes {
+            bytes,
+            few,
+            few_count,
+            kind: _,
+        } = self;
+        Bytes {
+            bytes,
+            few,
+            few_count,
+            kind: PhantomData,
+        }
     }
 
     /// Puts a byte at the end. After a refusal the list is as before.
@@ -131,6 +170,7 @@ impl<K> Bytes<K> {
         ensures ok { OnOk result (self.new ≡ self.old ++ item ∷ []) }
         ensures err { OnErr result (self.new ≡ self.old) }
     {
+        move_few(&self.few, &mut self.few_count, &mut self.bytes)?;
         self.bytes.push(item)?;
         Ok(())
     }
@@ -140,6 +180,7 @@ impl<K> Bytes<K> {
         ensures ok { OnOk result (self.new ≡ self.old ++ bytes.now) }
         ensures err { OnErr result (self.new ≡ self.old) }
     {
+        move_few(&self.few, &mut self.few_count, &mut self.bytes)?;
         self.bytes.extend_from_slice(bytes)
     }
 
@@ -148,29 +189,49 @@ impl<K> Bytes<K> {
         ensures item { option_copied result ≡ slice_get self.now i }
         ensures past_end { IsNone result ↔ (length self.now ≤ i) }
     {
-        self.bytes.get(i)
+        self.as_bytes().get(i)
     }
 
     /// Returns how many bytes there are.
     pub fn len(&self) -> usize
         ensures { result ≡ length self.now }
     {
-        self.bytes.len()
+        self.as_bytes().len()
     }
 
     /// Returns whether there is no byte.
     pub fn is_empty(&self) -> bool
         ensures { result ≡ (length self.now == 0) }
     {
-        self.bytes.is_empty()
+        self.len() == 0
     }
 
     /// Returns the bytes as a slice.
     pub fn as_bytes(&self) -> &[u8]
         ensures { result.now ≡ self.now }
     {
-        self.bytes.as_slice()
+        if self.few_count > 0 {
+            &self.few[..usize::from(self.few_count)]
+        } else {
+            self.bytes.as_slice()
+        }
     }
+}
+
+/// Moves bytes that are in a list itself into its vector. After a refusal both are as before.
+fn move_few(few: &[u8; FEW], count: &mut u8, bytes: &mut Vec<u8>) -> Result<(), AllocError>
+    requires count { count.old ≤ 23 }
+    requires one { (count.old ≡ 0) ⊎ (bytes.old.items ≡ []) }
+    ensures count { OnOk result (count.new ≡ 0) }
+    ensures bytes { OnOk result (bytes.new.items ≡ take count.old few.now ++ bytes.old.items) }
+    ensures count_kept { OnErr result (count.new ≡ count.old) }
+    ensures bytes_kept { OnErr result (bytes.new.items ≡ bytes.old.items) }
+{
+    if *count > 0 {
+        bytes.extend_from_slice(&few[..usize::from(*count)])?;
+        *count = 0;
+    }
+    Ok(())
 }
 
 /// Returns how many bytes the pieces have together, as far as a `usize` counts.

@@ -46,7 +46,7 @@ fn candidates<'a>(
     let places = word_places(alloc, search)?;
     let mut list = Vec::new(alloc);
     for path in modules {
-        let name = module_name(alloc, path)?.into_vec();
+        let name = module_name(alloc, path)?.into_vec()?;
         let bytes = path.as_bytes();
         list.push(Candidate {
             name,

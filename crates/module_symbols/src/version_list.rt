@@ -15,6 +15,9 @@ use std::marker::Model;
 /// few.
 const FEW_VERSIONS: usize = 128;
 
+/// The most bytes that their names may have together.
+const FEW_BYTES: usize = 8192;
+
 /// The most symbols for which versions are looked through one by one. Each may be a need, and names
 /// may share their bytes, so a file may have many more.
 const FEW_SYMBOLS: u32 = 1 << 16;
@@ -111,10 +114,22 @@ fn table_if_many<'a>(
     ensures { IfOk result (λ names. IfSome names
         (λ t. IsTableOf t (map (λ v. Some v.name.now) entries.now))) }
 {
-    if entries.len() <= FEW_VERSIONS && symbols <= FEW_SYMBOLS {
+    if symbols <= FEW_SYMBOLS && are_few(entries) {
         return Ok(None);
     }
     Ok(Some(table_of(alloc, entries)?))
+}
+
+/// Returns whether versions are few, and their names short.
+fn are_few(entries: &[Version]) -> bool {
+    if entries.len() > FEW_VERSIONS {
+        return false;
+    }
+    let mut length = 0usize;
+    for version in entries {
+        length = length.saturating_add(version.name.len());
+    }
+    length <= FEW_BYTES
 }
 
 /// Returns the table of the names of some versions.

@@ -15,19 +15,22 @@ const KEPT: usize = 8 << 20;
 /// megabytes of it. A contract sees it as those bytes.
 #[derive(Drop)]
 pub struct FileBuffer {
+    // What was read whole by somebody else, and not into the room.
+    given: Blob,
     room: Vec<u8>,
     filled: usize,
 }
 
 impl Model for FileBuffer {
-    ghost use Rattle.std.specs.Prelude.{ℕ, ◌+◌, ◌≤◌, List, take, vec_len};
+    ghost use Rattle.std.specs.Prelude.{ℕ, ◌≡◌, ◌+◌, ◌≤◌, ◌⊎◌, ◌++◌, [], List, length, take, vec_len};
     ghost use Rattle.km_names.specs.Limit.{file_limit};
 
     ghost Value = { List ℕ };
 
-    ghost view = { λ b. take b.filled b.room.items };
+    ghost view = { λ b. b.given ++ take b.filled b.room.items };
 
-    ghost invariant = { λ b. (b.filled ≤ vec_len b.room) × (vec_len b.room ≤ file_limit + 1) };
+    ghost invariant = { λ b. (b.filled ≤ vec_len b.room) × (vec_len b.room ≤ file_limit + 1)
+        × ((b.given ≡ []) ⊎ (b.filled ≡ 0)) };
 }
 
 impl FileBuffer {
@@ -35,37 +38,44 @@ impl FileBuffer {
     pub fn new(alloc: Global) -> Self
         ensures { result ≡ [] }
     {
-        FileBuffer {
-            room: Vec::new(alloc),
-            filled: 0,
-        }
+        FileBuffer::from_blob(alloc, Blob::new(alloc))
     }
 
     /// Returns the bytes as a slice.
     pub fn as_bytes(&self) -> &[u8]
         ensures { result.now ≡ self.now }
     {
-        &self.room[..self.filled]
+        if self.filled > 0 {
+            &self.room[..self.filled]
+        } else {
+            self.given.as_bytes()
+        }
     }
 
     /// Returns the bytes as an owned value, in the memory of the buffer.
     pub fn into_blob(self) -> Blob
         ensures { result ≡ self }
     {
-        let FileBuffer { mut room, filled } = self;
+        let FileBuffer {
+            given,
+            mut room,
+            filled,
+        } = self;
+        if filled == 0 {
+            return given;
+        }
         room.truncate(filled);
         Blob::from_vec(room)
     }
 
     /// Returns a buffer with the bytes of a file that was read, in their own memory.
-    pub(crate) fn from_blob(bytes: Blob) -> Self
-        requires { length bytes ≤ file_limit }
+    pub(crate) fn from_blob(alloc: Global, bytes: Blob) -> Self
         ensures { result ≡ bytes }
     {
-        let filled = bytes.len();
         FileBuffer {
-            room: bytes.into_vec(),
-            filled,
+            given: bytes,
+            room: Vec::new(alloc),
+            filled: 0,
         }
     }
 
@@ -86,6 +96,7 @@ impl FileBuffer {
     fn clear(&mut self)
         ensures { self.new ≡ [] }
     {
+        self.given = Blob::new(*self.room.allocator());
         self.filled = 0;
         if self.room.len() > KEPT {
             self.room.truncate(KEPT);

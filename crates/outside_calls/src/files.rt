@@ -96,7 +96,7 @@ pub trait Reads {
         ensures answers { ReadAnswers path.now (seen self.old) (seen self.new)
             (buffered buffer.new result) }
     {
-        *buffer = FileBuffer::from_blob(self.read(alloc, path)?);
+        *buffer = FileBuffer::from_blob(alloc, self.read(alloc, path)?);
         Ok(())
     }
 

@@ -35,7 +35,7 @@ plain text dash left right =
     ∙ ap Some (append-nil text)
     ∙ sym (run text dash left right)))
 
--- what is told by its negation
+-- what is not true is false
 pub no-more : (b : Bool) → IsTrue (not b) → b ≡ false
 no-more true is = absurd (cc)
 no-more false is = refl

@@ -177,7 +177,7 @@ fn add_value(
         ≡ with_values key_map.old (cons_option (value_with kind place name.now text.now) [])) }
 {
     if let Some(key) = key(alloc, kind, text)? {
-        key_map.add_owned(key.into_vec(), place, Vec::from_slice(alloc, name)?)?;
+        key_map.add_owned(key.into_vec()?, place, name)?;
     }
     Ok(())
 }
@@ -201,7 +201,7 @@ fn alias_key(alloc: Global, alias: &[u8]) -> Result<Option<Blob>, AllocError>
         return Ok(Some(Blob::from_slice(alloc, alias)?));
     }
     match normal_alias(alloc, alias)? {
-        Some(form) => Ok(Some(Blob::from_vec(form.into_vec()))),
+        Some(form) => Ok(Some(form.into_kind())),
         None => Ok(None),
     }
 }

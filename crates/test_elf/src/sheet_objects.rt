@@ -343,7 +343,8 @@ fn object_of(rt: &impl Abort, alloc: Global, row: &SheetRow) -> Option<Vec<u8>> 
     if !is_one {
         return None;
     }
-    Some(object(alloc, &sheet).expect(rt, "an object").into_vec())
+    let object = object(alloc, &sheet).expect(rt, "an object");
+    Some(object.into_vec().expect(rt, "bytes"))
 }
 
 /// Returns the object of a sheet with more, if these are one.
@@ -362,7 +363,7 @@ fn object_with(
         return None;
     }
     let object = object_more(alloc, &sheet, &more).expect(rt, "an object");
-    Some(object.into_vec())
+    Some(object.into_vec().expect(rt, "bytes"))
 }
 
 /// Returns whether the sheet of one of each is one with a further export.

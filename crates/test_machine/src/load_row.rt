@@ -72,7 +72,7 @@ fn machine(rt: &impl Abort, alloc: Global, size: u64) -> Machine {
 
 /// Returns the bytes with some of them changed.
 fn changed(rt: &impl Abort, bytes: Blob, changes: &[(usize, u8)]) -> Blob {
-    let mut bytes = bytes.into_vec();
+    let mut bytes = bytes.into_vec().expect(rt, "bytes");
     for (at, byte) in changes {
         assert!(rt; *at < bytes.len());
         bytes[*at] = *byte;

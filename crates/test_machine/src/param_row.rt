@@ -138,7 +138,7 @@ fn expect_answer(
 
 /// Returns the bytes with some of them changed.
 fn changed(rt: &impl Abort, bytes: Blob, changes: &[Change]) -> Blob {
-    let mut bytes = bytes.into_vec();
+    let mut bytes = bytes.into_vec().expect(rt, "bytes");
     for (place, byte) in changes {
         assert!(rt; *place < bytes.len());
         bytes[*place] = *byte;

@@ -86,7 +86,8 @@ fn second_relocation(rt: &impl Abort, bytes: &[u8]) -> usize {
 fn expect_overlap(rt: &impl Abort, alloc: Global) {
     let mut bytes = object_of(alloc, &TWO_WORDS)
         .expect(rt, "an object")
-        .into_vec();
+        .into_vec()
+        .expect(rt, "bytes");
     let entry = second_relocation(rt, bytes.as_slice());
     assert!(rt; entry < bytes.len());
     assert!(rt; bytes[entry] == 8);
@@ -116,7 +117,7 @@ fn section_end(rt: &impl Abort, alloc: Global, bytes: &Blob, section: &[u8]) -> 
 
 /// Returns the object with another byte before this place.
 fn with_byte_before(rt: &impl Abort, bytes: Blob, end: u64, byte: u8) -> Blob {
-    let mut changed = bytes.into_vec();
+    let mut changed = bytes.into_vec().expect(rt, "bytes");
     assert!(rt; end > 0 && end <= 65536 && end as usize <= changed.len());
     let last = end as usize - 1;
     assert!(rt; changed[last] == 0);

@@ -37,7 +37,8 @@ fn expect_bytes(rt: &impl Abort, alloc: Global) {
     same(rt, path.as_bytes(), b"/lib");
     assert!(rt; path.get(3).copied() == Some(b'b'));
     assert!(rt; path.get(4).is_none());
-    same_length(rt, Blob::from_vec(path.into_vec()).len(), 4);
+    let bytes = path.into_vec().expect(rt, "bytes");
+    same_length(rt, Blob::from_vec(bytes).len(), 4);
 }
 
 fn expect_word(rt: &impl Abort, alloc: Global) {

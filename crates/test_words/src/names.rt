@@ -47,17 +47,19 @@ fn path_of(rt: &impl Abort, alloc: Global, text: &[u8]) -> PathText {
 }
 
 fn name_of(rt: &impl Abort, alloc: Global, path: &PathText) -> Vec<u8> {
-    module_name(alloc, path).expect(rt, "a name").into_vec()
+    let name = module_name(alloc, path).expect(rt, "a name");
+    name.into_vec().expect(rt, "bytes")
 }
 
 fn joined(rt: &impl Abort, alloc: Global, folder: &[u8], rest: &[u8]) -> Vec<u8> {
     let folder = path_of(rt, alloc, folder);
-    join(alloc, &folder, rest).expect(rt, "joined").into_vec()
+    let path = join(alloc, &folder, rest).expect(rt, "joined");
+    path.into_vec().expect(rt, "bytes")
 }
 
 fn normal_form(rt: &impl Abort, alloc: Global, text: &[u8]) -> Option<Vec<u8>> {
     match normal_alias(alloc, text).expect(rt, "an answer") {
-        Some(normal) => Some(normal.into_vec()),
+        Some(normal) => Some(normal.into_vec().expect(rt, "bytes")),
         None => None,
     }
 }

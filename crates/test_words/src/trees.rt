@@ -36,7 +36,7 @@ fn search_of(rt: &impl Abort, alloc: Global, text: &[u8]) -> Result<Search, Conf
 fn chosen(rt: &impl Abort, alloc: Global, paths: &Paths, order: &[u8], search: &Search) -> Vec<u8> {
     match choose(alloc, paths, order, search) {
         Ok(tree) => lines_of(alloc, &tree).expect(rt, "lines"),
-        Err(TreeFault::BadPath { path }) => path.into_vec(),
+        Err(TreeFault::BadPath { path }) => path.into_vec().expect(rt, "bytes"),
         Err(TreeFault::TooManyModules { .. }) => panic!(rt; "few paths"),
         Err(TreeFault::Memory) => panic!(rt; "no memory"),
     }

@@ -8,13 +8,13 @@ use Rattle.builtin_index.proofs.aliases.add_alias.Goals as goal
 
 pub add_owned-requires-clause-key : goal.add_owned-requires-clause-key
 add_owned-requires-clause-key c =
-    subst IsKey (sym c.into_vec.ensures)
+    subst IsKey (sym c.in_ok-into_vec.ensures)
     (normal-key c.args.stated.alias.now c.in-Some.key c.requires.alias
     (sym c.in_ok-key.ensures ∙ c.in-Some.is))
 
 pub add_owned-requires-clause-text : goal.add_owned-requires-clause-text
 add_owned-requires-clause-text c =
-    subst IsText (sym (c.into_vec-in-Some.ensures ∙ c.in_ok-name.ensures))
+    subst IsText (sym (c.as_bytes.ensures ∙ c.in_ok-name.ensures))
     (underscored-text c.args.stated.module.now c.requires.module)
 
 pub returns-in_ok-add_owned : goal.returns-in_ok-add_owned
@@ -22,10 +22,10 @@ returns-in_ok-add_owned c =
     let stated = c.args.stated in
     let owner = underscored stated.module.now in
     c.in_ok-add_owned.ensures.ok
-    ∙ ap (λ key. with_value c.args.key_map.now key (stated.place, c.into_vec-in-Some.result.items))
-    c.into_vec.ensures
+    ∙ ap (λ key. with_value c.args.key_map.now key (stated.place, c.as_bytes.result.now))
+    c.in_ok-into_vec.ensures
     ∙ ap (λ text. with_value c.args.key_map.now c.in-Some.key (stated.place, text))
-    (c.into_vec-in-Some.ensures ∙ c.in_ok-name.ensures)
+    (c.as_bytes.ensures ∙ c.in_ok-name.ensures)
     ∙ ap (λ o. with_values c.args.key_map.now
     (option_to_list (option_map (λ (key : List ℕ). (key, (stated.place, owner))) o)))
     (sym c.in-Some.is ∙ c.in_ok-key.ensures)

@@ -16,12 +16,12 @@ loop-path-preserved c =
     let path = c.path-item.result in
     let made : Candidate
     = record
-    { name = c.into_vec-name.result; rank = c.rank.result; path = c.as_bytes-bytes.result }
+    { name = c.in_ok-name.name; rank = c.rank.result; path = c.as_bytes-bytes.result }
     in
     let is : IsCandidate words made
     = record {
       name
-          = c.into_vec-name.ensures ∙ c.in_ok-module_name.ensures
+          = c.in_ok-name.ensures ∙ c.in_ok-module_name.ensures
           ∙ ap module_name (sym c.as_bytes-bytes.ensures);
       rank_is = c.rank.ensures words c.in_ok-places.ensures;
     } in (
