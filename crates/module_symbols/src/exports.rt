@@ -101,36 +101,28 @@ fn read_exports(
     for i in 0..object.symbol_count() {
         if let Some(name) = stated_name(Role::Export, object.symbol(i)) {
             names = bytes_left(names, name.len())?;
-            let export = read_export(alloc, object, tables, name, spaces)?;
-            spaces -= export.space.len();
-            searches = bytes_left(searches, searched_in_vain(object, tables, name))?;
-            exports.push(export)?;
+            let (space, searched) = space_of(object, tables, name);
+            spaces = bytes_left(spaces, space.len())?;
+            searches = bytes_left(searches, searched)?;
+            exports.push(read_export(alloc, object, tables, name, space)?)?;
         }
     }
     Ok(exports)
 }
 
-/// Returns the export of a name, whose namespace has at most this many bytes.
-///
-/// # Errors
-///
-/// Out of memory, also if the namespace is longer.
+/// Returns the export of a name with its namespace.
 #[tactic(auto, unfolding(crate::specs::Exports::export_of))]
 fn read_export(
     alloc: Global,
     object: &ObjectView,
     tables: &SymbolTables,
     name: &[u8],
-    left: usize,
+    space: &[u8],
 ) -> Result<Export, AllocError>
-    requires { HasTables tables.now object.now }
-    ensures export { IfOk result (λ export. export ≡ export_of object.now name.now) }
-    ensures short { IfOk result (λ export. length export.space ≤ left) }
+    requires tables { HasTables tables.now object.now }
+    requires space { space.now ≡ (export_of object.now name.now).space }
+    ensures { IfOk result (λ export. export ≡ export_of object.now name.now) }
 {
-    let space = space_of(object, tables, name);
-    if left < space.len() {
-        return Err(AllocError);
-    }
     Ok(Export {
         name: Name::from_slice(alloc, name)?,
         symbol: tables.first_symbol(Role::Definition, name).unwrap_or(0),
@@ -140,30 +132,24 @@ fn read_export(
     })
 }
 
-/// Returns the namespace of an export, which is empty if no symbol gives one.
-fn space_of<'a>(object: &ObjectView<'a>, tables: &SymbolTables, name: &[u8]) -> &'a [u8]
+/// Returns the namespace of an export, which is empty if no symbol gives one, and how many bytes
+/// are searched in vain for its end.
+#[tactic(auto, unfolding(crate::specs::Exports::export_of))]
+fn space_of<'a>(object: &ObjectView<'a>, tables: &SymbolTables, name: &[u8]) -> (&'a [u8], usize)
     requires { HasTables tables.now object.now }
-    ensures { result.now
-        ≡ unwrap_or
-        (option_and_then (given_space object.now) (symbol_of Role.Space object.now name.now))
-        [] }
+    ensures { result.0.now ≡ (export_of object.now name.now).space }
 {
-    match symbol_of(object, tables, Role::Space, name) {
-        Some(symbol) => given_space(object, symbol).unwrap_or(&[]),
-        None => &[],
+    let Some(symbol) = symbol_of(object, tables, Role::Space, name) else {
+        return (&[], 0);
+    };
+    match given_space(object, symbol) {
+        Some(text) => (text, 0),
+        None => (&[], searched_in_vain(object, symbol)),
     }
 }
 
-/// Returns how many bytes are searched for the end of a namespace of an export if it has none.
-fn searched_in_vain(object: &ObjectView, tables: &SymbolTables, name: &[u8]) -> usize
-    requires { HasTables tables.now object.now }
-{
-    let Some(symbol) = symbol_of(object, tables, Role::Space, name) else {
-        return 0;
-    };
-    if given_space(object, symbol).is_some() {
-        return 0;
-    }
+/// Returns how many bytes are searched for the end of the namespace of a symbol that gives none.
+fn searched_in_vain(object: &ObjectView, symbol: SymbolRef) -> usize {
     let size = section_contents(object, u32::from(symbol.section)).len();
     size.saturating_sub(symbol.value as usize)
 }
