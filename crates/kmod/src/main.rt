@@ -11,6 +11,10 @@ use std::alloc::{AllocError, Global};
 use std::process::ExitCode;
 use std::{env, io};
 
+/// Nearly the largest buffer that glibc ever takes from its own region. mallopt(3),
+/// `M_MMAP_THRESHOLD`.
+const LARGEST: usize = 31 << 20;
+
 /// More bytes than the index files of a large kernel have together.
 const ROOM: usize = 8 << 20;
 
@@ -30,12 +34,13 @@ fn main(rt: HostRuntime) -> ExitCode {
 
 /// Takes room from the allocator and gives it back, twice. glibc gets each large buffer from the
 /// system by itself, until one as large was given back. From then on it takes such buffers from a
-/// region that it keeps, which the second time makes large enough. A kernel that gives large pages
-/// to all programs, as Debian's does by default, gives them to this region too, and files are read
-/// with fewer page faults. If there is no room, nothing is lost.
+/// region that it keeps, which the second time makes large enough for most. A kernel that gives
+/// large pages to all programs, as Debian's does by default, gives them to this region too, and
+/// files are read with fewer page faults. Memory that a very large file took is used again for what
+/// comes after it. If there is no room, nothing is lost.
 fn make_room(alloc: Global) {
-    for _ in 0..2 {
-        let room: Result<Vec<u8>, AllocError> = Vec::with_capacity(alloc, ROOM);
+    for size in [LARGEST, ROOM] {
+        let room: Result<Vec<u8>, AllocError> = Vec::with_capacity(alloc, size);
         drop(room);
     }
 }
