@@ -36,8 +36,7 @@ fn key_of(alloc: Global, text: &[u8]) -> Result<OwnedNameKey<'_>, AllocError>
     if !text.contains(&b'-') {
         return Ok(OwnedNameKey::Asked(text));
     }
-    let name = underscored(alloc, text)?;
-    Ok(OwnedNameKey::Owned(name.into_vec()?))
+    Ok(OwnedNameKey::Owned(underscored(alloc, text)?))
 }
 
 impl<'a> Seen<'a> {

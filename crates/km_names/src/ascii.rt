@@ -40,10 +40,17 @@ pub fn prefixed_hexadecimal(text: &[u8]) -> Option<u64>
     }
 }
 
+/// Returns whether each byte is of a visible character. Nearly all words are, so it doesn't stop at
+/// the first byte that isn't. So it looks at many bytes at a time.
 fn are_graphic(text: &[u8]) -> bool
     ensures { result ≡ list_all is_ascii_graphic text.now }
 {
-    text.iter().all(|b| b.is_ascii_graphic())
+    let mut graphic = true;
+    for i in 0..text.len() {
+        let visible = text[i].is_ascii_graphic();
+        graphic = graphic && visible;
+    }
+    graphic
 }
 
 fn are_digits(text: &[u8]) -> bool

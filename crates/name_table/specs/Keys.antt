@@ -5,5 +5,5 @@ use Rattle.name_table.specs.declared.key.OwnedNameKey.TheVariants.{Owned, Asked}
 
 -- The name that a key has.
 abbrev pub name_of : OwnedNameKey → List ℕ
-name_of (Owned bytes) = bytes.items
-name_of (Asked bytes) = bytes.now
+name_of (Owned name) = name
+name_of (Asked name) = name.now

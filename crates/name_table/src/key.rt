@@ -5,6 +5,7 @@ ghost use Rattle.std.specs.Cmp.{partial_equiv_from_equiv, on_per, on_equiv};
 ghost use Rattle.std.proofs.Common.{ap};
 ghost use Rattle.name_table.specs.Keys.{name_of};
 
+use km_names::Name;
 use std::hash::{BuildHasherDefault, DefaultHasher, Hash, Hasher};
 
 /// The hasher of the names of a table: SipHash-1-3 with both keys 0. Names come from files, which
@@ -60,7 +61,7 @@ impl<'a> Hash for NameKey<'a> {
 #[derive(Drop)]
 pub enum OwnedNameKey<'a> {
     /// A name that the table owns.
-    Owned(Vec<u8>),
+    Owned(Name),
     /// A name that is borrowed: it is looked up, or it outlives the table.
     Asked(&'a [u8]),
 }
@@ -71,8 +72,8 @@ impl<'a> OwnedNameKey<'a> {
         ensures { result.now ≡ name_of self.now }
     {
         match self {
-            OwnedNameKey::Owned(bytes) => bytes.as_slice(),
-            OwnedNameKey::Asked(bytes) => bytes,
+            OwnedNameKey::Owned(name) => name.as_bytes(),
+            OwnedNameKey::Asked(name) => name,
         }
     }
 }

@@ -8,6 +8,7 @@ ghost use Rattle.name_table.specs.NameTable.{IsTableOf, place_of};
 
 use crate::key::{NameHash, OwnedNameKey};
 use indexmap::IndexMap;
+use km_names::Name;
 use std::alloc::{AllocError, Global};
 use std::hash::BuildHasherDefault;
 use std::marker::Model;
@@ -44,7 +45,7 @@ fn keep_first(
     ensures err { OnErr result (IsUnchanged places.old places.new) }
 {
     if places.get(&OwnedNameKey::Asked(name)).is_none() {
-        let key = OwnedNameKey::Owned(Vec::from_slice(alloc, name)?);
+        let key = OwnedNameKey::Owned(Name::from_slice(alloc, name)?);
         places.insert(key, place)?;
     }
     Ok(())

@@ -15,7 +15,7 @@ returns-in_ok-insert-clause-ok c = λ other.
     let none
     = absent c.get.result _ c.is_none.result c.get.ensures.value c.is_none.ensures
     c.if-is_none.true in
-    let new : get same places key ≡ None = rw c.in_ok-from_slice.ensures.items none in
+    let new : get same places key ≡ None = rw c.in_ok-from_slice.ensures none in
     put-last name_of places.entries c.insert.new.self.entries key c.args.place c.args.name.now other
     (c.in_ok-insert.ensures.entries ∙ insert_entry-new same places key c.args.place new)
-    c.in_ok-from_slice.ensures.items
+    c.in_ok-from_slice.ensures
