@@ -202,7 +202,7 @@ fn first_bad_space<'a>(
 fn seen_names<'a>(alloc: Global, exports: &'a [Export]) -> Result<SeenNames<'a>, AllocError>
     ensures { IfOk result (λ table. HasSeen table exports.now) }
 {
-    let mut table = SeenNames::new(alloc);
+    let mut table = SeenNames::with_capacity(alloc, exports.len())?;
     for export in exports {
         let name = export.name.as_bytes();
         let times = if table.get(name).is_some() {

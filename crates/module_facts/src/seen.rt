@@ -1,6 +1,6 @@
 // How often names are seen.
 
-ghost use Rattle.std.specs.Prelude.{◌≡◌, ℕ, List, None, Some, OnOk, if◌then◌else◌};
+ghost use Rattle.std.specs.Prelude.{◌≡◌, ℕ, List, None, Some, IfOk, OnOk, if◌then◌else◌};
 ghost use Rattle.std.specs.Str.{bytes_eq};
 
 use indexmap::IndexMap;
@@ -26,13 +26,13 @@ pub(crate) struct SeenNames<'a> {
 impl<'a> SeenNames<'a> {
     ghost use Rattle.module_facts.specs.Times.{is_repeated, times_seen};
 
-    /// Returns a table that has seen no name.
-    pub(crate) fn new(alloc: Global) -> Self
-        ensures { (name : List ℕ) → times_seen result name ≡ None }
+    /// Returns a table that has seen no name, with room for this many.
+    pub(crate) fn with_capacity(alloc: Global, names: usize) -> Result<Self, AllocError>
+        ensures { IfOk result (λ table. (name : List ℕ) → times_seen table name ≡ None) }
     {
-        SeenNames {
-            times: IndexMap::with_hasher(alloc, BuildHasherDefault::new()),
-        }
+        Ok(SeenNames {
+            times: IndexMap::with_capacity_and_hasher(alloc, names, BuildHasherDefault::new())?,
+        })
     }
 
     /// Stores how often a name was seen.

@@ -1,4 +1,5 @@
-use Rattle.std.proofs.Common.{◌≡◌, ◌+◌, Some, take, is_some, ap, sym, ◌∙◌}
+use Rattle.std.proofs.Common.{◌≡◌, ◌+◌, Some, take, is_some, ap, sym, ◌∙◌, arith}
+use Rattle.std.proofs.lemmas.List.{take_all}
 use Rattle.std.specs.Cmp.Lexicographic.{bytes_decides}
 use Rattle.module_facts.specs.Times.{seen, times}
 use Rattle.module_facts.proofs.TimesLemmas.{seen-again, seen-first, seen-more}
@@ -24,3 +25,9 @@ loop-export-preserved c = λ name.
     (c.loop-export.invariant name)
     (λ same. next
     ∙ ap (λ m. seen (times (take i exports) m + 1)) ((bytes_decides e.name name).0 same))
+
+pub returns : goal.returns
+returns c =
+    let exports = c.args.exports.now in
+    let all = take_all c.loop-export.export-index exports (omega arith) in
+    record { at = λ name. c.loop-export.invariant name ∙ ap (λ es. seen (times es name)) all }
