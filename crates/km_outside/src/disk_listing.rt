@@ -197,9 +197,12 @@ fn open_below<R: rt::Files + AllocGlobal + Clone + Drop>(
     }
 }
 
-/// Returns the path of a name in a folder, which has a slash at its end.
+/// Returns the path of a name in a folder, which has a slash at its end. It has room for a slash of
+/// its own.
 fn joined(alloc: Global, folder: &str, name: &str) -> Result<String, AllocError> {
-    let mut path = String::from_str(alloc, folder)?;
+    let length = folder.len().saturating_add(name.len()).saturating_add(1);
+    let mut path = String::with_capacity(alloc, length)?;
+    path.push_str(folder)?;
     path.push_str(name)?;
     Ok(path)
 }
