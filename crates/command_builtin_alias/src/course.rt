@@ -56,9 +56,8 @@ fn found_text(alloc: Global, index: &Index, name: &Name) -> Result<Blob, Stop>
         Some(normal) => {
             let names = distinct_texts(alloc, index, normal.as_bytes())?;
             if names.len() == 0 {
-                return Err(Stop::from(Refusal::NotFound {
-                    name: normal.into_kind(),
-                }));
+                let name: Name = normal.into_kind();
+                return Err(Stop::from(Refusal::NotFound { name }));
             }
             Ok(lines_of(alloc, &names)?)
         }
