@@ -2,15 +2,16 @@
 use Rattle.std.proofs.Common.{◌≡◌, ℕ, suc, ◌+◌, ◌-◌, ◌*◌, ◌/◌, ◌<◌, ◌≤◌, Bool, true, false, ◌==◌}
 use Rattle.std.proofs.Common.{cond, ltb, List, [], ◌∷◌, ◌++◌, length, map, take, drop, position}
 use Rattle.std.proofs.Common.{find, Option, Some, None, option_map, refl, sym, ap, ◌∙◌, inl, inr}
-use Rattle.std.proofs.Common.{arith, zero-add, append_assoc, append-nil}
+use Rattle.std.proofs.Common.{get_or, arith, zero-add, append_assoc, append-nil}
 use Rattle.std.proofs.lemmas.Bool.{cases_lt, lt-ltb, ltb-true}
 use Rattle.std.proofs.lemmas.Iterator.Adapters.{position_from-zero}
-use Rattle.std.proofs.lemmas.List.{map-append, length-take-le}
+use Rattle.std.proofs.lemmas.List.{map-append, length-take-le, drop_more, get_or-map}
 use Rattle.std.proofs.lemmas.List.Elements.{All-from_get_or, filter_map-append}
 use Rattle.std.proofs.lemmas.List.FromFn.{map-range_with_len_more}
 use Rattle.std.proofs.lemmas.List.Folds.{find_at}
 use Rattle.std.proofs.lemmas.List.Splits.{slice_split_first, slice_split_none, length-slice_split}
 use Rattle.std.proofs.lemmas.List.Sums.{fails_before_first}
+use Rattle.std.proofs.lemmas.Slice.Eq.{bytes_eq-Decides}
 use Rattle.std.specs.List.{cons_option, filter_map, position_from, position_or_len, range_with_len}
 use Rattle.std.specs.List.{slice_get, slice_split, zip, before_first, after_first}
 use Rattle.std.specs.Str.{bytes_eq}
@@ -18,7 +19,7 @@ use Rattle.km_names.specs.Number.{le}
 use Rattle.km_names.specs.Strings.{first_string}
 use Rattle.name_table.specs.NameTable.{first_place, states}
 use Rattle.module_symbols.specs.declared.versions.Version.{Version}
-use Rattle.module_symbols.specs.Listed.{version_entry}
+use Rattle.module_symbols.specs.Listed.{mark_of, version_entry}
 use Rattle.module_symbols.specs.Versions.{ended_names, entry, entry_name, extended_list}
 use Rattle.module_symbols.specs.Versions.{stated_version, without_last}
 
@@ -268,3 +269,35 @@ stated-none list name is =
     ∙ position_from-zero (λ (v : Version). bytes_eq v.name.now name) list) in
     sym (ap (option_map (λ (e : List ℕ × ℕ). e.1))
     (find-shown name list ∙ ap (option_map version_entry) lost))
+
+-- ---- versions looked for one by one
+
+-- the version at k has another name
+pub passed-name : (list : List Version) (name : List ℕ) (k : ℕ) (d : Version)
+    (found : Option (List ℕ × ℕ))
+    → k < length list → bytes_eq (get_or list k d).name.now name ≡ false
+    → found ≡ find (λ (e : List ℕ × ℕ). bytes_eq e.0 name) (map version_entry (drop k list))
+    → found ≡ find (λ (e : List ℕ × ℕ). bytes_eq e.0 name) (map version_entry (drop (k + 1) list))
+passed-name list name k d found within other so_far =
+    so_far
+    ∙ ap (λ l. find (λ (e : List ℕ × ℕ). bytes_eq e.0 name) (map version_entry l))
+    (drop_more list k d within)
+    ∙ ap (λ b. cond b (Some (version_entry (get_or list k d)))
+    (find (λ (e : List ℕ × ℕ). bytes_eq e.0 name) (map version_entry (drop (k + 1) list)))) other
+
+-- names with different marks are different
+pub other-name : (list : List Version) (marks name : List ℕ) (k mark : ℕ) (d : Version)
+    → marks ≡ map (λ (v : Version). mark_of v.name.now) list → k < length list
+    → mark ≡ mark_of name → (get_or marks k 0 ≡ mark → ⊥)
+    → bytes_eq (get_or list k d).name.now name ≡ false
+other-name list marks name k mark d are within is differ =
+    by_test (bytes_eq (get_or list k d).name.now name) refl
+  where
+    by_test : (b : Bool) → bytes_eq (get_or list k d).name.now name ≡ b → b ≡ false
+    by_test false e = refl
+    by_test true e =
+        let same : (get_or list k d).name.now ≡ name
+        = (bytes_eq-Decides (get_or list k d).name.now name).0 e in
+        absurd (differ (ap (λ l. get_or l k 0) are
+        ∙ get_or-map (λ (v : Version). mark_of v.name.now) list k d 0 within
+        ∙ ap mark_of same ∙ sym is))

@@ -2,7 +2,7 @@
 
 ghost use Rattle.std.specs.Prelude.{◌≡◌, ◌<◌, ◌-◌, ◌^◌, length, map, Some, IfOk, IfSome};
 ghost use Rattle.name_table.specs.NameTable.{IsTableOf};
-ghost use Rattle.module_symbols.specs.Listed.{version_entry};
+ghost use Rattle.module_symbols.specs.Listed.{mark_of, version_entry};
 ghost use Rattle.module_symbols.specs.Versions.{stated_version};
 
 use crate::versions::{Version, Versions, version_list};
@@ -28,20 +28,23 @@ const FEW_SYMBOLS: u32 = 1 << 16;
 #[derive(Drop)]
 pub(crate) struct VersionList<'a> {
     entries: Versions<'a>,
+    // The mark of each name.
+    marks: Vec<u8>,
     // None if they are few.
     names: Option<NameTable<'a>>,
 }
 
 impl<'a> Model for VersionList<'a> {
-    ghost use Rattle.std.specs.Prelude.{ℕ, List, Some, IfSome, map};
+    ghost use Rattle.std.specs.Prelude.{ℕ, ◌≡◌, List, Some, IfSome, map};
     ghost use Rattle.name_table.specs.NameTable.{IsTableOf};
-    ghost use Rattle.module_symbols.specs.Listed.{version_entry};
+    ghost use Rattle.module_symbols.specs.Listed.{mark_of, version_entry};
 
     ghost Value = { List (List ℕ × ℕ) };
 
     ghost view = { λ list. map version_entry list.entries };
 
-    ghost invariant = { λ list. IfSome list.names
+    ghost invariant = { λ list. (list.marks.items ≡ map (λ v. mark_of v.name.now) list.entries)
+        × IfSome list.names
         (λ names. IsTableOf names (map (λ v. Some v.name.now) list.entries)) };
 }
 
@@ -56,8 +59,13 @@ impl<'a> VersionList<'a> {
         ensures { IfOk result (λ list. list ≡ version_list object.now) }
     {
         let entries = version_list(alloc, object)?;
+        let marks = marks_of(alloc, entries.as_slice())?;
         let names = table_if_many(alloc, entries.as_slice(), object.symbol_count())?;
-        Ok(VersionList { entries, names })
+        Ok(VersionList {
+            entries,
+            marks,
+            names,
+        })
     }
 
     /// Returns how many versions there are.
@@ -73,7 +81,7 @@ impl<'a> VersionList<'a> {
     {
         match &self.names {
             Some(names) => version_by(&self.entries, names, name),
-            None => first_version(self.entries.as_slice(), name),
+            None => first_version(self.entries.as_slice(), self.marks.as_slice(), name),
         }
     }
 }
@@ -91,17 +99,45 @@ fn version_by(entries: &Versions, names: &NameTable, name: &[u8]) -> Option<u64>
     }
 }
 
-/// Returns the version of the first entry of a name, looked for one by one.
+/// Returns the version of the first entry of a name, looked for one by one. Only names with the
+/// same mark are compared.
 #[tactic(auto, unfolding(crate::specs::Versions::stated_version))]
-fn first_version(entries: &[Version], name: &[u8]) -> Option<u64>
+fn first_version(entries: &[Version], marks: &[u8], name: &[u8]) -> Option<u64>
+    requires { marks.now ≡ map (λ v. mark_of v.name.now) entries.now }
     ensures { result ≡ stated_version (map version_entry entries.now) name.now }
 {
-    for version in entries {
-        if version.name == name {
-            return Some(version.number);
+    let wanted = mark(name);
+    for k in 0..entries.len() {
+        if marks[k] == wanted && entries[k].name == name {
+            return Some(entries[k].number);
         }
     }
     None
+}
+
+/// Returns the marks of the names of some versions.
+fn marks_of(alloc: Global, entries: &[Version]) -> Result<Vec<u8>, AllocError>
+    ensures { IfOk result (λ marks. marks.items ≡ map (λ v. mark_of v.name.now) entries.now) }
+{
+    let mut marks = Vec::with_capacity(alloc, entries.len())?;
+    for version in entries {
+        marks.push(mark(version.name))?;
+    }
+    Ok(marks)
+}
+
+/// Returns the mark of a name, a byte by its length, its last byte and the one in its middle. Most
+/// names of a list that differ have different marks.
+#[tactic(auto, unfolding(crate::specs::Listed::mark_of))]
+fn mark(name: &[u8]) -> u8
+    ensures { result ≡ mark_of name.now }
+{
+    if name.is_empty() {
+        return 0;
+    }
+    let last = usize::from(name[name.len() - 1]);
+    let middle = usize::from(name[name.len() / 2]);
+    ((name.len() % 256 * 31 + last * 7 + middle) % 256) as u8
 }
 
 /// Returns the table of the names of some versions, unless they and the symbols are few.
