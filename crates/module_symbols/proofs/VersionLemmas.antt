@@ -2,10 +2,13 @@
 use Rattle.std.proofs.Common.{◌≡◌, ℕ, suc, ◌+◌, ◌-◌, ◌*◌, ◌/◌, ◌<◌, ◌≤◌, Bool, true, false, ◌==◌}
 use Rattle.std.proofs.Common.{cond, ltb, List, [], ◌∷◌, ◌++◌, length, map, take, drop, position}
 use Rattle.std.proofs.Common.{find, Option, Some, None, option_map, refl, sym, ap, ◌∙◌, inl, inr}
-use Rattle.std.proofs.Common.{get_or, arith, zero-add, append_assoc, append-nil}
+use Rattle.std.proofs.Common.{get_or, zero, arith, zero-add, append_assoc, append-nil}
 use Rattle.std.proofs.lemmas.Bool.{cases_lt, lt-ltb, ltb-true}
+use Rattle.std.proofs.lemmas.Cmp.{nat_eq_equiv}
 use Rattle.std.proofs.lemmas.Iterator.Adapters.{position_from-zero}
-use Rattle.std.proofs.lemmas.List.{map-append, length-take-le, drop_more, get_or-map}
+use Rattle.std.proofs.lemmas.List.{map-append, length-take-le, drop_all, drop_more, get_or-drop}
+use Rattle.std.proofs.lemmas.List.{get_or-map, length-drop, length-map, take_rest}
+use Rattle.memchr.specs.Find.{Nowhere, Passes, is_byte}
 use Rattle.std.proofs.lemmas.List.Elements.{All-from_get_or, filter_map-append}
 use Rattle.std.proofs.lemmas.List.FromFn.{map-range_with_len_more}
 use Rattle.std.proofs.lemmas.List.Folds.{find_at}
@@ -301,3 +304,70 @@ other-name list marks name k mark d are within is differ =
         absurd (differ (ap (λ l. get_or l k 0) are
         ∙ get_or-map (λ (v : Version). mark_of v.name.now) list k d 0 within
         ∙ ap mark_of same ∙ sym is))
+
+-- how many marks are left
+pub places-left : (list : List Version) (marks : List ℕ) (from : ℕ)
+    → marks ≡ map (λ (v : Version). mark_of v.name.now) list
+    → length (take (length marks - from) (drop from marks)) ≡ length list - from
+places-left list marks from are =
+    ap length (take_rest marks from) ∙ length-drop from marks
+    ∙ ap (λ l. length l - from) are
+    ∙ ap (λ n. n - from) (length-map list (λ (v : Version). mark_of v.name.now))
+
+-- no version before the next place of the mark has the name
+pub passed-marks : (list : List Version) (marks name hay : List ℕ) (from place mark : ℕ)
+    (found : Option (List ℕ × ℕ))
+    → marks ≡ map (λ (v : Version). mark_of v.name.now) list → mark ≡ mark_of name
+    → hay ≡ drop from marks
+    → Nowhere (Passes (is_byte mark) hay) 0 place → from + place ≤ length list
+    → found ≡ find (λ (e : List ℕ × ℕ). bytes_eq e.0 name) (map version_entry (drop from list))
+    → found
+    ≡ find (λ (e : List ℕ × ℕ). bytes_eq e.0 name) (map version_entry (drop (from + place) list))
+passed-marks list marks name hay from zero mark found are is left none within so_far =
+    so_far
+    ∙ ap (λ k. find (λ (e : List ℕ × ℕ). bytes_eq e.0 name) (map version_entry (drop k list)))
+    (omega arith)
+passed-marks list marks name hay from (suc place) mark found are is left none within so_far =
+    let d : Version = record { name = record { ref_ptr = (0, 0); now = [] }; number = 0 } in
+    let here : from + place < length list = omega (arith, within) in
+    let at : get_or hay place 0 ≡ get_or marks (from + place) 0
+    = ap (λ l. get_or l place 0) left ∙ get_or-drop from marks place 0 in
+    let other : get_or marks (from + place) 0 ≡ mark → ⊥
+    = λ same. none place (omega arith) (omega arith)
+    (ap (λ b. b == mark) (at ∙ same) ∙ nat_eq_equiv.refl mark) in
+    let before : found
+    ≡ find (λ (e : List ℕ × ℕ). bytes_eq e.0 name)
+    (map version_entry (drop (from + place) list))
+    = passed-marks list marks name hay from place mark found are is left
+    (λ k l m. none k l (omega (arith, m))) (omega (arith, within)) so_far in
+    passed-name list name (from + place) d found here
+    (other-name list marks name (from + place) mark d are here is other) before
+    ∙ ap (λ k. find (λ (e : List ℕ × ℕ). bytes_eq e.0 name) (map version_entry (drop k list)))
+    (omega arith)
+
+-- the version at the place has the name
+pub named-at : (list : List Version) (name : List ℕ) (k : ℕ) (d : Version)
+    → k < length list → bytes_eq (get_or list k d).name.now name ≡ true
+    → find (λ (e : List ℕ × ℕ). bytes_eq e.0 name) (map version_entry list)
+    ≡ find (λ (e : List ℕ × ℕ). bytes_eq e.0 name) (map version_entry (drop k list))
+    → Some (get_or list k d).number ≡ stated_version (map version_entry list) name
+unfolding stated_version
+named-at list name k d within is so_far =
+    sym (ap (option_map (λ (e : List ℕ × ℕ). e.1))
+    (so_far
+    ∙ ap (λ l. find (λ (e : List ℕ × ℕ). bytes_eq e.0 name) (map version_entry l))
+    (drop_more list k d within)
+    ∙ ap (λ b. cond b (Some (version_entry (get_or list k d)))
+    (find (λ (e : List ℕ × ℕ). bytes_eq e.0 name) (map version_entry (drop (k + 1) list)))) is))
+
+-- no version is left
+pub named-nowhere : (list : List Version) (name : List ℕ)
+    → find (λ (e : List ℕ × ℕ). bytes_eq e.0 name) (map version_entry list)
+    ≡ find (λ (e : List ℕ × ℕ). bytes_eq e.0 name) (map version_entry (drop (length list) list))
+    → None ≡ stated_version (map version_entry list) name
+unfolding stated_version
+named-nowhere list name so_far =
+    sym (ap (option_map (λ (e : List ℕ × ℕ). e.1))
+    (so_far
+    ∙ ap (λ l. find (λ (e : List ℕ × ℕ). bytes_eq e.0 name) (map version_entry l))
+    (drop_all (length list) list (omega arith))))

@@ -12,7 +12,8 @@
 //! other are hashed.
 //!
 //! The crate uses `elf_object` for symbols and sections, `km_names` for numbers and strings,
-//! `name_table` for tables of names, and `indexmap` for those of the names that symbols state.
+//! `name_table` for tables of names, `indexmap` for those of the names that symbols state, and
+//! `memchr` for searches of short version lists.
 #![tactic(auto)]
 
 mod contents;

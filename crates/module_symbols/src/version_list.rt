@@ -7,6 +7,7 @@ ghost use Rattle.module_symbols.specs.Versions.{stated_version};
 
 use crate::versions::{Version, Versions, version_list};
 use elf_object::ObjectView;
+use memchr::memchr;
 use name_table::NameTable;
 use std::alloc::{AllocError, Global};
 use std::marker::Model;
@@ -107,10 +108,13 @@ fn first_version(entries: &[Version], marks: &[u8], name: &[u8]) -> Option<u64>
     ensures { result ≡ stated_version (map version_entry entries.now) name.now }
 {
     let wanted = mark(name);
-    for k in 0..entries.len() {
-        if marks[k] == wanted && entries[k].name == name {
-            return Some(entries[k].number);
+    let mut from = 0;
+    while let Some(place) = memchr(wanted, &marks[from..]) {
+        let version = &entries[from + place];
+        if version.name == name {
+            return Some(version.number);
         }
+        from += place + 1;
     }
     None
 }
